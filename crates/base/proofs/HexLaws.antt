@@ -1,0 +1,157 @@
+-- Laws of hexadecimal digits: numbers and bytes there and back. Assumes nothing.
+use Prim.Native.Nat.{ℕ, zero, suc, _+_, _-_, _*_, _/_, _%_, _^_, _≤_, _<_}
+use mathlib.Core.Path.{_≡_, refl, ap, ap₂, sym, _∙_}
+use mathlib.Core.List.{List, [], _∷_}
+use mathlib.Core.Bool.{Bool, true, false, cond, _&&_, _||_}
+use mathlib.Core.Logic.{⊎-elim}
+use native.Mathlib.Numerals.{add-one}
+use native.Mathlib.Nat.{div-div-eq-div-mul, div-one, pow-suc, pow-succ', pow-le-pow-right, mul-le-mul-right, mul-assoc}
+use native.Mathlib.Omega.{arith}
+use lib.Dec.{leb}
+use lib.ListN.{length, getD, take, drop, drop-of-length-le}
+use lib.Seq.{drop-cons}
+use borrow.Author.Tests.{leb-true, leb-false, le-leb, lt-leb}
+use Rattle.base.specs.Hex.{between, isHex, hexOf, digitOf, hexNumber, digitsOf, bytesOf, pairsOf}
+use Rattle.base.specs.Leading.{leading}
+use Rattle.base.proofs.Bools.{and-true, true-false}
+use Rattle.base.proofs.LeadingLaws.{leading-cons}
+
+-- ---- one digit
+
+small-at : (b : ℕ) (p q : Bool) → (p ≡ true → b ≤ 57) → (q ≡ true → b ≤ 70) → cond p (b - 48) (cond q (b - 55) 0) ≤ 15
+small-at b true q f g = let h = f refl in omega arith
+small-at b false true f g = let h = g refl in omega arith
+small-at b false false f g = omega arith
+
+pub hex-small : (b : ℕ) → hexOf b ≤ 15
+unfolding hexOf
+hex-small b =
+    small-at b (between 48 57 b) (between 65 70 b)
+    (λ e. leb-true b 57 (and-true (leb 48 b) (leb b 57) e .1))
+    (λ e. leb-true b 70 (and-true (leb 65 b) (leb b 70) e .1))
+
+value-at : (v : ℕ) (low : Bool) → leb v 9 ≡ low → v < 16 → hexOf (cond low (v + 48) (v + 55)) ≡ v
+unfolding hexOf
+value-at v true e h = let g = leb-true v 9 e in simp (le-leb 48 (v + 48) (omega arith), le-leb (v + 48) 57 (omega arith)) (omega arith)
+value-at v false e h =
+    let g = leb-false v 9 e in
+    simp (le-leb 48 (v + 55) (omega arith), lt-leb (v + 55) 57 (omega arith), le-leb 65 (v + 55) (omega arith), le-leb (v + 55) 70 (omega arith)) (omega arith)
+
+-- a value is read back from its digit
+pub digit-value : (v : ℕ) → v < 16 → hexOf (digitOf v) ≡ v
+unfolding digitOf
+digit-value v h = value-at v (leb v 9) refl h
+
+hex-at : (v : ℕ) (low : Bool) → leb v 9 ≡ low → v < 16 → isHex (cond low (v + 48) (v + 55)) ≡ true
+unfolding isHex
+hex-at v true e h = let g = leb-true v 9 e in simp (le-leb 48 (v + 48) (omega arith), le-leb (v + 48) 57 (omega arith))
+hex-at v false e h =
+    let g = leb-false v 9 e in
+    simp (le-leb 48 (v + 55) (omega arith), lt-leb (v + 55) 57 (omega arith), le-leb 65 (v + 55) (omega arith), le-leb (v + 55) 70 (omega arith))
+
+pub digit-hex : (v : ℕ) → v < 16 → isHex (digitOf v) ≡ true
+unfolding digitOf
+digit-hex v h = hex-at v (leb v 9) refl h
+
+-- a digit is written back from its value
+pub value-digit : (b : ℕ) → isHex b ≡ true → digitOf (hexOf b) ≡ b
+unfolding isHex hexOf digitOf
+value-digit b = go (between 48 57 b) (between 65 70 b) refl refl
+  where
+    go : (t u : Bool) → between 48 57 b ≡ t → between 65 70 b ≡ u → t || u ≡ true → digitOf (cond t (b - 48) (cond u (b - 55) 0)) ≡ b
+    go true u e f _ =
+        let h = and-true (leb 48 b) (leb b 57) e in
+        let low : 48 ≤ b = leb-true 48 b (h .0) in
+        let high : b ≤ 57 = leb-true b 57 (h .1) in
+        rw (le-leb (b - 48) 9 (omega arith)) (omega arith)
+    go false true e f _ =
+        let h = and-true (leb 65 b) (leb b 70) f in
+        let low : 65 ≤ b = leb-true 65 b (h .0) in
+        let high : b ≤ 70 = leb-true b 70 (h .1) in
+        rw (lt-leb (b - 55) 9 (omega arith)) (omega arith)
+    go false false e f x = absurd (true-false x refl)
+
+-- ---- numbers
+
+-- one more digit, and the last
+pub number-more : (n : ℕ) (s : List ℕ) (i : ℕ) → i < length s → hexNumber n (drop i s) ≡ hexNumber (n * 16 + hexOf (getD s i 0)) (drop (i + 1) s)
+number-more n s i h = rw (add-one, drop-cons s i 0)
+
+pub number-end : (n : ℕ) (s : List ℕ) (i : ℕ) → length s ≤ i → hexNumber n (drop i s) ≡ n
+number-end n s i h = rw drop-of-length-le
+
+-- the low 32 bits of a number need only those of what stands before
+number-cong : (m n : ℕ) (s : List ℕ) → m % 2 ^ 32 ≡ n % 2 ^ 32 → hexNumber m s % 2 ^ 32 ≡ hexNumber n s % 2 ^ 32
+number-cong m n [] e = e
+number-cong m n (b ∷ s) e = number-cong (m * 16 + hexOf b) (n * 16 + hexOf b) s (omega arith)
+
+pub number-low : (n b : ℕ) (s : List ℕ) → hexNumber (n * 16 + hexOf b) s % 2 ^ 32 ≡ hexNumber (n % 268435456 * 16 + hexOf b) s % 2 ^ 32
+number-low n b s = number-cong (n * 16 + hexOf b) (n % 268435456 * 16 + hexOf b) s (omega arith)
+
+-- digits have room for so much, and up to eight fit 32 bits
+number-lt : (n : ℕ) (s : List ℕ) → hexNumber n s < (n + 1) * 16 ^ length s
+number-lt n [] = omega arith
+number-lt n (b ∷ s) =
+    let room : (n * 16 + hexOf b + 1) * 16 ^ length s ≤ (n + 1) * 16 * 16 ^ length s = mul-le-mul-right (16 ^ length s) (omega (arith, hex-small b)) in
+    let more : (n + 1) * 16 * 16 ^ length s ≡ (n + 1) * 16 ^ suc (length s) = rw (pow-succ' 16 (length s)) (mul-assoc (n + 1) 16 (16 ^ length s)) in
+    omega (arith, number-lt (n * 16 + hexOf b) s)
+
+pub number-fits : (s : List ℕ) → length s ≤ 8 → hexNumber 0 s % 2 ^ 32 ≡ hexNumber 0 s
+number-fits s h = omega (arith, number-lt 0 s, pow-le-pow-right {n = 16} (omega arith) {i = length s} {j = 8} h)
+
+pub shift-digit : (k n : ℕ) → n / 16 ^ k / 16 ≡ n / 16 ^ suc k
+shift-digit k n = rw (pow-suc 16 k) (div-div-eq-div-mul n (16 ^ k) 16)
+
+-- the digits of a number are digits, as many as are asked for, and write the number
+pub digits-length : (k n : ℕ) → length (digitsOf k n) ≡ k
+unfolding digitsOf
+digits-length zero n = refl
+digits-length (suc k) n = ap suc (digits-length k n)
+
+-- one digit more, in front
+pub digits-more : (k n : ℕ) {d : ℕ} → d ≡ digitOf (n / 16 ^ k % 16) → d ∷ digitsOf k n ≡ digitsOf (suc k) n
+unfolding digitsOf
+digits-more k n e = rw e
+
+pub digits-hex : (k n : ℕ) → leading isHex (digitsOf k n) ≡ k
+unfolding digitsOf
+digits-hex zero n = refl
+digits-hex (suc k) n = rw (digit-hex (n / 16 ^ k % 16) (omega arith), digits-hex k n)
+
+pub digits-back : (k n : ℕ) → hexNumber (n / 16 ^ k) (digitsOf k n) ≡ n
+unfolding digitsOf
+digits-back zero n = div-one n
+digits-back (suc k) n =
+    let d = shift-digit k n in
+    let v = digit-value (n / 16 ^ k % 16) (omega arith) in
+    let e : n / 16 ^ suc k * 16 + hexOf (digitOf (n / 16 ^ k % 16)) ≡ n / 16 ^ k = omega arith in
+    ap (λ (x : ℕ). hexNumber x (digitsOf k n)) e ∙ digits-back k n
+
+-- ---- bytes as pairs
+
+pub bytes-length : (t : List ℕ) → length (bytesOf t) ≡ length t / 2
+bytes-length [] = refl
+bytes-length (h ∷ []) = refl
+bytes-length (h ∷ l ∷ s) = let e = bytes-length s in omega arith
+
+pub bytes-at : (t : List ℕ) (k d : ℕ) → k < length t / 2 → getD (bytesOf t) k d ≡ hexOf (getD t (2 * k) 0) * 16 + hexOf (getD t (2 * k + 1) 0)
+bytes-at [] k d h = absurd (omega arith)
+bytes-at (x ∷ []) k d h = absurd (omega arith)
+bytes-at (x ∷ y ∷ s) zero d h = refl
+bytes-at (x ∷ y ∷ s) (suc k) d h =
+    let e₁ : 2 * suc k + 1 ≡ suc (suc (2 * k + 1)) = omega arith in
+    let e₀ : 2 * suc k ≡ suc (suc (2 * k)) = omega arith in
+    rw (e₁, e₀) (bytes-at s k d (omega arith))
+
+-- pairs of digits are written back from their bytes
+pub pairs-back : (ps : List ℕ) → length ps % 2 ≡ 0 → length ps ≤ leading isHex ps → pairsOf (bytesOf ps) ≡ ps
+unfolding pairsOf
+pairs-back [] e h = refl
+pairs-back (x ∷ []) e h = absurd (omega arith)
+pairs-back (x ∷ y ∷ s) e h =
+    let p = leading-cons isHex x (y ∷ s) h in
+    let q = leading-cons isHex y s (p .1) in
+    let high : (hexOf x * 16 + hexOf y) / 16 ≡ hexOf x = omega (arith, hex-small y) in
+    let low : (hexOf x * 16 + hexOf y) % 16 ≡ hexOf y = omega (arith, hex-small y) in
+    ap₂ _∷_ (ap digitOf high ∙ value-digit x (p .0))
+    (ap₂ _∷_ (ap digitOf low ∙ value-digit y (q .0)) (pairs-back s (omega arith) (q .1)))

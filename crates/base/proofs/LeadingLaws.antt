@@ -1,0 +1,38 @@
+-- Laws of `leading`. A loop that counts the leading elements that pass has for its invariant that what is counted, and what
+-- there is from there on, make the whole. Assumes nothing.
+use Prim.Native.Nat.{ℕ, zero, suc, _+_, _≤_, _<_}
+use mathlib.Core.Path.{_≡_, refl}
+use mathlib.Core.List.{List, [], _∷_}
+use mathlib.Core.Bool.{Bool, true, false, cond}
+use mathlib.Core.Logic.{⊎-elim}
+use native.Mathlib.Numerals.{add-one}
+use native.Mathlib.Omega.{arith}
+use lib.ListN.{length, getD, take, drop, drop-of-length-le}
+use lib.Seq.{drop-cons}
+use Rattle.base.specs.Leading.{leading}
+use Rattle.base.proofs.Bools.{either}
+
+module _ (p : ℕ → Bool) (s : List ℕ) (i : ℕ) where
+  -- one more passes
+  pub leading-more : i < length s → p (getD s i 0) ≡ true → leading p (drop i s) ≡ suc (leading p (drop (i + 1) s))
+  leading-more h e = rw (add-one, drop-cons s i 0, e)
+
+  -- the first that does not
+  pub leading-stop : i < length s → p (getD s i 0) ≡ false → leading p (drop i s) ≡ 0
+  leading-stop h e = rw (drop-cons s i 0, e)
+
+  -- none is left
+  pub leading-end : length s ≤ i → leading p (drop i s) ≡ 0
+  leading-end h = rw drop-of-length-le
+
+pub leading-le : (p : ℕ → Bool) (s : List ℕ) → leading p s ≤ length s
+leading-le p [] = omega arith
+leading-le p (b ∷ s) = ⊎-elim (λ e. rw e (let h = leading-le p s in omega arith)) (λ e. rw e (omega arith)) (either (p b))
+
+-- where all pass, the first does, and all others
+pub leading-cons : (p : ℕ → Bool) (b : ℕ) (s : List ℕ) → length (b ∷ s) ≤ leading p (b ∷ s) → (p b ≡ true) × (length s ≤ leading p s)
+leading-cons p b s h = go (p b) refl h
+  where
+    go : (t : Bool) → p b ≡ t → suc (length s) ≤ cond t (suc (leading p s)) 0 → (p b ≡ true) × (length s ≤ leading p s)
+    go true e h = (e, omega arith)
+    go false e h = absurd (omega arith)

@@ -1,0 +1,5 @@
+pub mod Bools
+pub mod LeadingLaws
+pub mod HexLaws
+pub mod LinesLaws
+pub mod ListLaws

@@ -1,0 +1,4 @@
+pub mod Hex
+pub mod Leading
+pub mod Lines
+pub mod Lists
