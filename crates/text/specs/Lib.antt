@@ -1,0 +1,2 @@
+pub mod Numeric
+pub mod Coding

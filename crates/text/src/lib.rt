@@ -1,0 +1,157 @@
+// The characters of a page's text and its 20-bit message groups (document 01, "Texts").
+// A text is handed in as it stands in a job: pairs of upper-case hexadecimal digits.
+ghost use mathlib.Core.Path.{_≡_};
+ghost use Rattle.base.specs.Hex.{bytesOf};
+ghost use Rattle.base.specs.Leading.{leading};
+ghost use Rattle.text.specs.Numeric.{numericOf, numericByte};
+ghost use Rattle.text.specs.Coding.{isNumeric, charOk, widthOf, fillOf, valueOf, bitOf, groupOf, groupsOf};
+
+// The two ways to write a text in bits.
+pub enum Coding {
+    Numeric,
+    Alphanumeric,
+}
+
+// What a byte is as a numeric character: its four-bit value, or none.
+pub enum NumericValue {
+    Value(u8),
+    NotNumeric,
+}
+
+// Table III, from the byte to the value. The spare value has no character.
+pub fn numeric_value(b: u8) -> NumericValue
+    ensures { λ r. ⌜ r ≡ numericOf b ⌝ }
+{
+    match b {
+        b'0'..=b'9' => NumericValue::Value(b - b'0'),
+        b'U' => NumericValue::Value(11),
+        b' ' => NumericValue::Value(12),
+        b'-' => NumericValue::Value(13),
+        b']' => NumericValue::Value(14),
+        b'[' => NumericValue::Value(15),
+        _ => NumericValue::NotNumeric,
+    }
+}
+
+// Table III, from the value to the byte. The spare is shown as `*`.
+pub fn numeric_byte(v: u8) -> u8
+    ensures { λ r. ⌜ r ≡ numericByte v ⌝ }
+{
+    match v {
+        0..=9 => v + b'0',
+        11 => b'U',
+        12 => b' ',
+        13 => b'-',
+        14 => b']',
+        15 => b'[',
+        _ => b'*',
+    }
+}
+
+pub fn is_numeric(b: u8) -> bool
+    ensures { λ r. ⌜ r ≡ isNumeric b ⌝ }
+{
+    let v = numeric_value(b);
+    match v {
+        NumericValue::Value(_) => true,
+        NumericValue::NotNumeric => false,
+    }
+}
+
+// Whether a byte is among the characters of a coding.
+pub fn is_char(c: Coding, b: u8) -> bool
+    ensures { λ r. ⌜ r ≡ charOk c b ⌝ }
+{
+    match c {
+        Coding::Numeric => is_numeric(b),
+        Coding::Alphanumeric => match b {
+            3 | 4 => false,
+            1..=127 => true,
+            _ => false,
+        },
+    }
+}
+
+// How many characters of the coding a text begins with.
+pub fn char_run(c: Coding, text: &[u8]) -> usize
+    ensures { λ r. ⌜ r ≡ leading (charOk c) (bytesOf (now (text .entry))) ⌝ }
+{
+    let mut k = 0;
+    while k < text.len() / 2 {
+        if !is_char(c, base::pair_byte(text, k, 0)) {
+            return k;
+        }
+        k += 1;
+    }
+    k
+}
+
+// Bits a character.
+pub fn width(c: Coding) -> usize
+    ensures { λ r. ⌜ r ≡ widthOf c ⌝ }
+{
+    match c {
+        Coding::Numeric => 4,
+        Coding::Alphanumeric => 7,
+    }
+}
+
+// The character that fills the last group.
+pub fn fill(c: Coding) -> u8
+    ensures { λ r. ⌜ r ≡ fillOf c ⌝ }
+{
+    match c {
+        Coding::Numeric => b' ',
+        Coding::Alphanumeric => 0,
+    }
+}
+
+// A character's bits as a number.
+pub fn char_value(c: Coding, b: u8) -> u8
+    ensures { λ r. ⌜ r ≡ valueOf c b ⌝ }
+{
+    match c {
+        Coding::Numeric => {
+            let v = numeric_value(b);
+            match v {
+                NumericValue::Value(n) => n,
+                NumericValue::NotNumeric => 0,
+            }
+        }
+        Coding::Alphanumeric => b,
+    }
+}
+
+// Bit p of a text, counted from its first.
+pub fn text_bit(c: Coding, text: &[u8], p: usize) -> u32
+    ensures { λ r. ⌜ r ≡ bitOf c (bytesOf (now (text .entry))) p ⌝ }
+{
+    let w = width(c);
+    let k = p / w;
+    let s = p % w;
+    let b = base::pair_byte(text, k, fill(c));
+    let v = char_value(c, b);
+    ((v >> s) % 2) as u32
+}
+
+// The 20 bits of a text's group at index g, the first bit on top.
+pub fn group(c: Coding, text: &[u8], g: u16) -> u32
+    ensures { λ r. ⌜ r ≡ groupOf c (bytesOf (now (text .entry))) g ⌝ }
+{
+    let from = 20 * (g as usize);
+    let mut bits: u32 = 0;
+    let mut j = 0;
+    while j < 20 {
+        bits = bits * 2 + text_bit(c, text, from + j);
+        j += 1;
+    }
+    bits
+}
+
+// How many groups so many characters take.
+pub fn groups(c: Coding, count: u16) -> usize
+    ensures { λ r. ⌜ r ≡ groupsOf c count ⌝ }
+{
+    let w = width(c);
+    ((count as usize) * w + 19) / 20
+}
