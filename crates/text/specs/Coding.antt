@@ -1,8 +1,9 @@
 -- Texts as bits (document 01, "Texts"): which characters a coding has, and the 20 bits of each group.
-use Prim.Native.Nat.{ℕ, zero, suc, _+_, _*_, _/_, _%_, _^_}
+use Prim.Native.Nat.{ℕ, zero, suc, _+_, _-_, _*_, _/_, _%_, _^_}
 use mathlib.Core.List.{List}
 use mathlib.Core.Bool.{Bool, true, false, not, _&&_}
-use lib.ListN.{getD}
+use lib.Dec.{eqb}
+use lib.ListN.{length, getD}
 use Rattle.base.specs.Hex.{between}
 use Rattle.text.specs.Numeric.{numericOf}
 use Rattle.text.specs.declared.NumericValue.{NumericValue}
@@ -26,6 +27,11 @@ isNumeric b = hasValue (numericOf b)
 abbrev pub charOk : Coding → ℕ → Bool
 charOk Numeric b = isNumeric b
 charOk Alphanumeric b = between 1 127 b && not (between 3 4 b)
+
+-- whether a numeric text ends in a space, which reading would drop (number 7); an alphanumeric one may
+unfoldable pub endsInSpace : Coding → List ℕ → Bool
+endsInSpace Numeric bytes = eqb (getD bytes (length bytes - 1) 0) 32
+endsInSpace Alphanumeric bytes = false
 
 -- bits a character
 abbrev pub widthOf : Coding → ℕ

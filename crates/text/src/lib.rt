@@ -4,7 +4,7 @@ ghost use mathlib.Core.Path.{_≡_};
 ghost use Rattle.base.specs.Hex.{bytesOf};
 ghost use Rattle.base.specs.Leading.{leading};
 ghost use Rattle.text.specs.Numeric.{numericOf, numericByte};
-ghost use Rattle.text.specs.Coding.{isNumeric, charOk, widthOf, fillOf, valueOf, bitOf, groupOf, groupsOf};
+ghost use Rattle.text.specs.Coding.{isNumeric, charOk, endsInSpace, widthOf, fillOf, valueOf, bitOf, groupOf, groupsOf};
 
 // The two ways to write a text in bits.
 pub enum Coding {
@@ -84,6 +84,22 @@ pub fn char_run(c: Coding, text: &[u8]) -> usize
         k += 1;
     }
     k
+}
+
+// Whether a numeric text ends in a space.
+pub fn ends_in_space(c: Coding, text: &[u8]) -> bool
+    ensures { λ r. ⌜ r ≡ endsInSpace c (bytesOf (now (text .entry))) ⌝ }
+{
+    match c {
+        Coding::Numeric => {
+            let n = text.len() / 2;
+            if n == 0 {
+                return false;
+            }
+            base::pair_byte(text, n - 1, 0) == b' '
+        }
+        Coding::Alphanumeric => false,
+    }
 }
 
 // Bits a character.
