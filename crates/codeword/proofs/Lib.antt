@@ -1,0 +1,11 @@
+pub mod XorLaws
+pub mod Linear
+pub mod CodeLaws
+pub mod Tests
+pub mod Unique
+pub mod NearestLaws
+pub mod AnswerLaws
+pub mod Maps
+pub mod Decode
+pub mod TableLaws
+pub mod CorrectionTheorem

@@ -1,0 +1,5 @@
+pub mod Answer
+pub mod Code
+pub mod CorrectionTheorem
+pub mod Nearest
+pub mod Table
