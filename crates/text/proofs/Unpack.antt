@@ -3,9 +3,16 @@ use Prim.Native.Nat.{ℕ, zero, suc, _+_, _-_, _*_, _/_, _%_, _^_, _≤_, _<_}
 use mathlib.Core.Path.{_≡_, refl, ap, sym, _∙_}
 use mathlib.Core.List.{List}
 use native.Mathlib.Omega.{arith}
-use lib.ListN.{getD}
+use lib.Dec.{ltb}
+use lib.ListN.{length, getD, List·getD-eq-default}
+use mathlib.Core.Bool.{true, false}
+use mathlib.Core.Logic.{⊎-elim}
+use borrow.Author.Tests.{ltb-true, ltb-false}
+use Rattle.base.proofs.Bools.{either}
+use Rattle.base.proofs.ListLaws.{tab-length, tab-at}
 use lib.Pow.{shr-shr, mod-pow-add}
-use Rattle.text.specs.Coding.{widthOf, fillOf, valueOf, bitOf, bitsFrom, groupOf, fromLow}
+use Rattle.text.specs.Coding.{widthOf, fillOf, valueOf, bitOf, bitsFrom, groupOf, groupsOf, groupsIn}
+use Rattle.text.specs.Heard.{fromLow}
 use Rattle.text.specs.declared.Coding.{Coding}
 use Rattle.text.specs.declared.Coding.the-variants.{Numeric, Alphanumeric}
 use Rattle.text.proofs.Laws.{bit-small}
@@ -77,3 +84,25 @@ pub char-bits : (c : Coding) (bytes : List ℕ) (i : ℕ) → fromLow (λ b. bit
 char-bits c bytes i =
     let v = valueOf c (getD bytes i (fillOf c)) in
     low-same (λ b. bitOf c bytes (widthOf c * i + b)) (λ b. v / 2 ^ b % 2) (widthOf c) (char-bit c bytes i) ∙ low-bits v (widthOf c)
+
+-- A group has 20 bits.
+pub group-small : (c : Coding) (bytes : List ℕ) (g : ℕ) → groupOf c bytes g < 2 ^ 20
+unfolding groupOf
+group-small c bytes g = omega (arith, bits-high (bitOf c bytes) (bit-small c bytes) (20 * g) 20 0)
+
+module _ (c : Coding) (bytes : List ℕ) where
+  pub groups-length : length (groupsIn c bytes) ≡ groupsOf c (length bytes)
+  unfolding groupsIn
+  groups-length = tab-length (groupOf c bytes) (groupsOf c (length bytes))
+
+  pub groups-at : (i : ℕ) → i < groupsOf c (length bytes) → getD (groupsIn c bytes) i 0 ≡ groupOf c bytes i
+  unfolding groupsIn
+  groups-at i h = tab-at (groupOf c bytes) (groupsOf c (length bytes)) i 0 h
+
+  pub groups-small : (i : ℕ) → getD (groupsIn c bytes) i 0 < 2 ^ 20
+  groups-small i =
+      let n = groupsOf c (length bytes) in
+      ⊎-elim
+      (λ (h : ltb i n ≡ true). rw (groups-at i (ltb-true i n h)) (group-small c bytes i))
+      (λ (h : ltb i n ≡ false). rw (List·getD-eq-default (groupsIn c bytes) 0 {n = i} (omega (arith, groups-length, ltb-false i n h))) (omega arith))
+      (either (ltb i n))

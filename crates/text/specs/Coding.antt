@@ -5,6 +5,7 @@ use mathlib.Core.Bool.{Bool, true, false, not, _&&_}
 use lib.Dec.{eqb}
 use lib.ListN.{length, getD}
 use Rattle.base.specs.Hex.{between}
+use Rattle.base.specs.Lists.{tab}
 use Rattle.text.specs.Numeric.{numericOf}
 use Rattle.text.specs.declared.NumericValue.{NumericValue}
 use Rattle.text.specs.declared.NumericValue.the-variants.{Value, NotNumeric}
@@ -65,7 +66,6 @@ groupOf c bytes g = bitsFrom (bitOf c bytes) (20 * g) 20 0
 abbrev pub groupsOf : Coding → ℕ → ℕ
 groupsOf c count = (count * widthOf c + 19) / 20
 
--- reading: the number that n bits write, the first the least significant
-unfoldable pub fromLow : (ℕ → ℕ) → ℕ → ℕ
-fromLow bit zero = 0
-fromLow bit (suc n) = bit n * 2 ^ n + fromLow bit n
+-- the groups of a text
+unfoldable pub groupsIn : Coding → List ℕ → List ℕ
+groupsIn c bytes = tab (groupOf c bytes) (groupsOf c (length bytes))

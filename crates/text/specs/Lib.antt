@@ -1,2 +1,4 @@
 pub mod Numeric
 pub mod Coding
+pub mod Heard
+pub mod Back
