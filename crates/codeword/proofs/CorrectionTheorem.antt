@@ -1,7 +1,7 @@
 -- The correction theorem, proved. Assumes nothing.
 use mathlib.Core.Path.{_≡_, refl, ap}
 use mathlib.Core.Option.{Option, none, some}
-use Prim.Native.Nat.{ℕ, _≤_, _<_}
+use Prim.Native.Nat.{ℕ}
 use native.Mathlib.Omega.{arith}
 use Rattle.codeword.specs.Answer.{answer, numberOf}
 use Rattle.codeword.specs.Code.{addressBits, messageBits}

@@ -1,6 +1,6 @@
 -- The rule of the table of wrong bits, by one test that antt computes over the whole table and over all errors of at most two of
 -- 31 bits. It holds for any table that passes the test. Assumes nothing.
-use mathlib.Core.Path.{_≡_, _∙_, ap, subst, sym}
+use mathlib.Core.Path.{_∙_, ap, subst, sym}
 use mathlib.Core.Bool.{Bool, true, false, cond, _&&_}
 use mathlib.Core.List.{List}
 use Prim.Native.Nat.{ℕ, _/_, _%_, _-_, _^_, _≤_, _<_}

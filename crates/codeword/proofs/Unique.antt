@@ -1,9 +1,9 @@
 -- At most one codeword is within two bits of a word: the 529 errors of at most two bits have distinct syndromes, by one
 -- test that antt computes. Assumes nothing.
 use mathlib.Core.Path.{_≡_, refl, sym, ap, _∙_}
-use mathlib.Core.List.{List, [], _∷_, _++_, map, List·Memᴰ, List·Memᴰ·head, Memᴰ·cast, Memᴰ·map, Memᴰ·append-left, Memᴰ·append-right}
+use mathlib.Core.List.{_++_, map, List·Memᴰ, List·Memᴰ·head, Memᴰ·cast, Memᴰ·map, Memᴰ·append-left, Memᴰ·append-right}
 use mathlib.Core.Logic.{_⊎_, inl, inr, ⊎-elim}
-use Prim.Native.Nat.{ℕ, zero, suc, _+_, _*_, _/_, _%_, _^_, _≤_, _<_}
+use Prim.Native.Nat.{ℕ, zero, suc, _+_, _*_, _/_, _^_, _≤_, _<_}
 use native.Mathlib.Nat.{pow-suc}
 use native.Mathlib.Omega.{arith}
 use lib.Bits.{bitXor, xor-lt, xor-zero-r}

@@ -34,15 +34,18 @@ impl Codeword {
     pub fn word(self) -> u32
         ensures { λ r. ⌜ r ≡ self .0 ⌝ }
     {
-        self.0
+        let Codeword(word) = self;
+        word
     }
 
+    // Whether this is the sync codeword.
     pub fn is_sync(self) -> bool
         ensures { λ r. ⌜ r ≡ eqb (self .0) sync ⌝ }
     {
         self.0 == Codeword::SYNC.0
     }
 
+    // Whether this is the idle codeword.
     pub fn is_idle(self) -> bool
         ensures { λ r. ⌜ r ≡ eqb (self .0) idle ⌝ }
     {
@@ -118,7 +121,7 @@ fn syndrome(word: u32) -> u32
 fn remainder(polynomial: u32) -> u32
     ensures { λ r. ⌜ r ≡ remainder 31 polynomial ⌝ }
 {
-    let p = (polynomial % 2147483648) as u64;
+    let p = (polynomial % 0x8000_0000) as u64;
     let t = p ^ (p << 3) ^ (p << 5);
     let q = (t >> 15) ^ (t >> 16) ^ (t >> 17) ^ (t >> 19) ^ (t >> 23) ^ (t >> 31);
     let v = q ^ (q << 3);
@@ -151,7 +154,7 @@ fn flipped_bits(entry: u16) -> u32
     ensures { λ r. ⌜ r ≡ flippedBits entry ⌝ }
 {
     if 1024 <= entry {
-        return 2147483647;
+        return 0x7FFF_FFFF;
     }
     bit_at(entry / 32) ^ bit_at(entry % 32)
 }
@@ -161,7 +164,7 @@ fn bit_at(number: u16) -> u32
     requires { ⌜ number < 32 ⌝ }
     ensures { λ r. ⌜ r ≡ bitAt number ⌝ }
 {
-    (2147483648 >> number) % 2147483648
+    (0x8000_0000 >> number) % 0x8000_0000
 }
 
 // The wrong bits for each remainder: 32 p + q for bits p and q, p before q; q for one bit; 0 for

@@ -1,10 +1,10 @@
 -- `codeword::all_flips` meets its contract: what an entry names has 31 bits. Assumes nothing.
-use mathlib.Core.Path.{_≡_, ap, ap₂, _∙_}
-use Prim.Native.Nat.{ℕ, _+_, _*_, _%_, _<_}
+use mathlib.Core.Path.{_≡_, ap, _∙_}
+use Prim.Native.Nat.{ℕ, _+_, _*_, _%_}
 use native.Mathlib.Omega.{arith}
 use borrow.Author.Needs.{needs}
 use Rattle.codeword.specs.Code.{weight}
-use Rattle.codeword.specs.Table.{flippedBits, withLast}
+use Rattle.codeword.specs.Table.{withLast}
 use Rattle.codeword.proofs.TableLaws.{flipped-lt}
 use Rattle.codeword.proofs.all_flips.Statement.{statement}
 use Rattle.codeword.proofs.all_flips.Tie as tie

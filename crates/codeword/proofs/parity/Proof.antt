@@ -1,6 +1,5 @@
 -- `codeword::parity` meets its contract: both are linear, and they are the same at the 32 words of a single one.
 -- Assumes nothing.
-use mathlib.Core.Path.{_≡_}
 use Prim.Native.Nat.{ℕ, _%_}
 use native.Mathlib.Omega.{arith}
 use lib.Count.{onesIn}

@@ -1,6 +1,5 @@
 -- `codeword::remainder` meets its contract: both are linear, and they are the same at the 32 words of a single one.
 -- Assumes nothing.
-use mathlib.Core.Path.{_≡_}
 use native.Mathlib.Omega.{arith}
 use borrow.Author.Needs.{needs}
 use Rattle.codeword.specs.Code.{reduce, remainder}
