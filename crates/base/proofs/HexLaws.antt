@@ -127,6 +127,22 @@ digits-back (suc k) n =
     let e : n / 16 ^ suc k * 16 + hexOf (digitOf (n / 16 ^ k % 16)) ≡ n / 16 ^ k = omega arith in
     ap (λ (x : ℕ). hexNumber x (digitsOf k n)) e ∙ digits-back k n
 
+-- what stood before the digits is above them, and the digits of the number are those that wrote it
+number-high : (n : ℕ) (s : List ℕ) → hexNumber n s / 16 ^ length s ≡ n
+number-high n [] = div-one n
+number-high n (b ∷ s) =
+    sym (shift-digit (length s) (hexNumber (n * 16 + hexOf b) s))
+    ∙ ap (λ (x : ℕ). x / 16) (number-high (n * 16 + hexOf b) s)
+    ∙ omega (arith, hex-small b)
+
+pub number-digits : (n : ℕ) (s : List ℕ) → length s ≤ leading isHex s → digitsOf (length s) (hexNumber n s) ≡ s
+unfolding digitsOf
+number-digits n [] h = refl
+number-digits n (b ∷ s) h =
+    let p = leading-cons isHex b s h in
+    let last : (n * 16 + hexOf b) % 16 ≡ hexOf b = omega (arith, hex-small b) in
+    ap₂ _∷_ (ap (λ (x : ℕ). digitOf (x % 16)) (number-high (n * 16 + hexOf b) s) ∙ ap digitOf last ∙ value-digit b (p .0)) (number-digits (n * 16 + hexOf b) s (p .1))
+
 -- ---- bytes as pairs
 
 pub bytes-length : (t : List ℕ) → length (bytesOf t) ≡ length t / 2

@@ -1,12 +1,12 @@
 -- Laws of lists: filling loops, lists by index. Assumes nothing.
 use Prim.Native.Nat.{ℕ, zero, suc, _+_, _-_, _≤_, _<_, zero-le, suc-le-suc}
 use mathlib.Core.Path.{_≡_, refl, sym, ap, ap₂, _∙_}
-use mathlib.Core.List.{List, [], _∷_, _++_, map}
+use mathlib.Core.List.{List, [], _∷_, _++_, map, append-nil, append-assoc}
 use native.Mathlib.Nat.{not-suc-le-zero, le-of-suc-le-suc}
 use native.Mathlib.Numerals.{add-one}
 use native.Mathlib.Omega.{arith}
-use lib.ListN.{length, set, getD, take, drop, replicate, length-drop, length-append}
-use lib.Seq.{take-all}
+use lib.ListN.{length, set, getD, take, drop, replicate, length-drop, length-append, drop-of-length-le}
+use lib.Seq.{take-all, drop-cons, drop-drop, append-snoc, take-append-seam, drop-append-seam, set-append-seam}
 use Rattle.base.specs.Lists.{over, tab, padded}
 
 -- a part that goes to the end of its slice
@@ -48,6 +48,38 @@ zeros-left (suc n) (suc k) = let e : suc n - suc k ≡ n - k = omega arith in rw
 -- an array of zeros with elements over it
 pub over-zeros : (n : ℕ) (xs : List ℕ) → over (replicate n 0) xs ≡ padded n xs
 over-zeros n xs = ap (λ (t : List ℕ). xs ++ t) (zeros-left n (length xs))
+
+-- ---- writing on behind what is written already
+
+-- a place behind it gets v
+pub over-byte : (old new : List ℕ) (a v : ℕ) {out : List ℕ} → out ≡ over old new → length new ≡ a → a < length old → set out a v ≡ over old (new ++ (v ∷ []))
+over-byte old new a v e l h =
+    let tail : drop (length new) old ≡ getD old (length new) 0 ∷ drop (suc (length new)) old = drop-cons old (length new) 0 (omega arith) in
+    let size : length (new ++ (v ∷ [])) ≡ suc (length new) = length-append new (v ∷ []) ∙ add-one (length new) in
+    rw (e, ← l, tail, set-append-seam new (getD old (length new) 0) (drop (suc (length new)) old) v, size) (sym (append-snoc new v (drop (suc (length new)) old)))
+
+-- n places behind it get p
+pub over-part : (old new p : List ℕ) (a n : ℕ) {out : List ℕ} → out ≡ over old new → length new ≡ a → length p ≡ n
+    → take a out ++ (p ++ drop n (drop a out)) ≡ over old (new ++ p)
+over-part old new p a n e l m =
+    let size : length (new ++ p) ≡ length new + length p = length-append new p in
+    rw (e, ← l, ← m, take-append-seam new (drop (length new) old), drop-append-seam new (drop (length new) old), drop-drop (length p) (length new) old, size)
+    (sym (append-assoc new p (drop (length new + length p) old)))
+
+-- all places behind it were lent, and q was written over their front
+pub over-behind : (old new q : List ℕ) (a : ℕ) {out p : List ℕ} → out ≡ over old new → length new ≡ a → a ≤ length out → p ≡ over (take (length out - a) (drop a out)) q
+    → take a out ++ (p ++ drop (length out - a) (drop a out)) ≡ over old (new ++ q)
+over-behind old new q a {out} e l h f =
+    let none : drop (length out - a) (drop a out) ≡ [] = drop-of-length-le (drop a out) {i = length out - a} (omega (arith, length-drop a out)) in
+    rw (none, f, to-end a out, append-nil (over (drop a out) q)) (over-part old new q a (length q) e l refl)
+
+-- the slice keeps its length
+pub over-length : (old new : List ℕ) → length new ≤ length old → length (over old new) ≡ length old
+over-length old new h = omega (arith, length-append new (drop (length new) old), length-drop (length new) old)
+
+-- a slice that is written over whole
+pub over-all : (old new : List ℕ) → length old ≤ length new → over old new ≡ new
+over-all old new h = rw (drop-of-length-le old h, append-nil new)
 
 -- ---- lists by index
 
