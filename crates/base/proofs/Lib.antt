@@ -3,3 +3,4 @@ pub mod LeadingLaws
 pub mod HexLaws
 pub mod LinesLaws
 pub mod ListLaws
+pub mod SearchLaws

@@ -2,3 +2,4 @@ pub mod Hex
 pub mod Leading
 pub mod Lines
 pub mod Lists
+pub mod Search
