@@ -48,10 +48,6 @@ pub shift-small : (c : Coding) (p : ℕ) → p % widthOf c < 8
 shift-small Numeric p = omega arith
 shift-small Alphanumeric p = omega arith
 
-pub bit-small : (c : Coding) (bytes : List ℕ) (p : ℕ) → bitOf c bytes p ≤ 1
-unfolding bitOf
-bit-small c bytes p = omega arith
-
 -- Room for one more bit.
 pub bit-room : (n j b : ℕ) → n < 2 ^ j → b ≤ 1 → n * 2 + b < 2 ^ (j + 1)
 bit-room n j b h k = let e = pow-add 2 j 1 in omega arith

@@ -21,7 +21,8 @@ use Rattle.text.specs.declared.NumericValue.{NumericValue}
 use Rattle.text.specs.declared.NumericValue.the-variants.{Value}
 use Rattle.text.specs.declared.Coding.{Coding}
 use Rattle.text.specs.declared.Coding.the-variants.{Numeric, Alphanumeric}
-use Rattle.text.proofs.Unpack.{group-bit, low-same, char-bits}
+use Rattle.text.proofs.BitLaws.{low-same}
+use Rattle.text.proofs.GroupLaws.{group-bit, char-bits}
 
 -- ---- the characters: those of the text, and fill
 

@@ -58,6 +58,10 @@ unfoldable pub bitsFrom : (ℕ → ℕ) → ℕ → ℕ → ℕ → ℕ
 bitsFrom bit at zero acc = acc
 bitsFrom bit at (suc n) acc = bitsFrom bit (at + 1) n (acc * 2 + bit at)
 
+-- the n low bits of a number, turned round: its lowest bit is the most significant
+unfoldable pub turnedOf : ℕ → ℕ → ℕ
+turnedOf n x = bitsFrom (λ p. x / 2 ^ p % 2) 0 n 0
+
 -- the 20 bits of the group at index g
 unfoldable pub groupOf : Coding → List ℕ → ℕ → ℕ
 groupOf c bytes g = bitsFrom (bitOf c bytes) (20 * g) 20 0

@@ -7,7 +7,8 @@ use denote.Ref.{now}
 use lib.Pow.{pow-mono}
 use Rattle.base.specs.Hex.{bytesOf}
 use Rattle.text.specs.Coding.{bitOf, bitsFrom, groupOf}
-use Rattle.text.proofs.Laws.{bits-more, bits-none, group-bits, bit-small, bit-room}
+use Rattle.text.proofs.Laws.{bits-more, bits-none, group-bits, bit-room}
+use Rattle.text.proofs.GroupLaws.{bit-small}
 use Rattle.text.proofs.group.Statement.{statement}
 use Rattle.text.proofs.group.Tie as tie
 
