@@ -1,0 +1,57 @@
+-- Laws of the definitions of `specs/`: what a line and a job say, case by case. Assumes nothing.
+use Prim.Native.Nat.{ℕ, suc, _+_, _-_, _≤_, _<_}
+use mathlib.Core.Path.{_≡_}
+use mathlib.Core.List.{List}
+use mathlib.Core.Bool.{true}
+use mathlib.Core.Logic.{⊎-elim}
+use native.Mathlib.Omega.{arith}
+use lib.ListN.{length, take, drop, length-drop}
+use lib.Dec.{leb}
+use borrow.Author.Tests.{le-leb, lt-leb, eq-eqb, ne-eqb, leb-true}
+use native.Mathlib.Nat.{eq-or-lt-of-le}
+use Rattle.base.specs.Lines.{split, lineEnd}
+use Rattle.base.proofs.Bools.{and-true}
+use Rattle.base.proofs.LinesLaws.{end-inside, none-left, cut, uncut}
+use Rattle.job.specs.Line.{headFormed, wellFormed, lineOf}
+use Rattle.job.specs.Job.{after, judge, jobOf}
+use Rattle.job.specs.declared.Refusal.the-variants.{Malformed, TooManyLines, EmptyJob}
+use Rattle.job.specs.declared.LineAnswer.{LineAnswer}
+use Rattle.job.specs.declared.JobAnswer.the-variants.{Accepted, Refused}
+
+pub head-long : (l : List ℕ) → headFormed l ≡ true → 8 ≤ length l
+unfolding headFormed
+head-long l e = leb-true 8 (length l) (and-true (leb 8 (length l)) _ e .0)
+
+pub formed-long : (l : List ℕ) → wellFormed l ≡ true → 8 ≤ length l
+unfolding wellFormed
+formed-long l e = head-long l (and-true (headFormed l) _ e .0)
+
+pub job-empty : (job : List ℕ) → length job ≡ 0 → jobOf job ≡ Refused EmptyJob 0
+unfolding jobOf
+job-empty job e = rw (eq-eqb (length job) 0 e)
+
+-- The answer to what is left from the byte `at` on, behind k good lines.
+module _ (job : List ℕ) (at k : ℕ) where
+  pub judge-done : length job ≤ at → judge k (split (drop at job)) ≡ Accepted k
+  unfolding judge
+  judge-done h = rw (none-left job at h)
+
+  pub judge-many : at < length job → 48 ≤ k → judge k (split (drop at job)) ≡ Refused TooManyLines 49
+  unfolding judge
+  judge-many h m =
+      let d = length-drop at job in
+      ⊎-elim
+      (λ u. rw (uncut job at (omega arith) (omega arith)) (simp (ne-eqb (length (drop at job)) 0 (λ z. omega arith), le-leb 48 k m)))
+      (λ l. rw (cut job at l) (simp (le-leb 48 k m)))
+      (eq-or-lt-of-le (end-inside job at (omega arith)))
+
+  pub judge-unended : k < 48 → at < length job → length job ≤ lineEnd job at → judge k (split (drop at job)) ≡ Refused Malformed (k + 1)
+  unfolding judge
+  judge-unended m h u =
+      let d = length-drop at job in
+      rw (uncut job at (omega arith) u) (simp (ne-eqb (length (drop at job)) 0 (λ z. omega arith), lt-leb 48 k m))
+
+  pub judge-line : {end : ℕ} {x : LineAnswer} → end ≡ lineEnd job at → k < 48 → end < length job → x ≡ lineOf (take (end - at) (drop at job))
+      → judge k (split (drop at job)) ≡ after x (k + 1) (judge (k + 1) (split (drop (end + 1) job)))
+  unfolding judge
+  judge-line q m h e = rw (e, q, cut job at (rw q at h)) (simp (lt-leb 48 k m))

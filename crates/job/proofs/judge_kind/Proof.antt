@@ -1,0 +1,35 @@
+-- `job::judge_kind` meets its contract. Assumes nothing.
+use native.Mathlib.Omega.{arith}
+use borrow.Author.Tests.{le-leb, lt-leb}
+use Rattle.job.specs.Line.{kindPageOf}
+use borrow.Author.Needs.{needs}
+use Rattle.job.proofs.judge_kind.Statement.{statement}
+use Rattle.job.proofs.judge_kind.Tie as tie
+
+judge-tone-requires : tie.Need-judge-tone-requires
+judge-tone-requires c κs = search needs
+
+judge-text-requires : tie.Need-judge-text-requires
+judge-text-requires c κs = search needs
+
+returns : tie.Need-returns
+unfolding kindPageOf
+returns c =
+    let k = c .before .before .before .args .kind in
+    rw (c .judge-tone .ensures) (simp (le-leb 0 k (omega arith), le-leb k 3 (omega arith)))
+
+returns-2 : tie.Need-returns-2
+unfolding kindPageOf
+returns-2 c =
+    let k = c .before .before .before .before .args .kind in
+    rw (c .judge-text .ensures) (simp (le-leb 0 k (omega arith), lt-leb k 3 (omega arith), le-leb 4 k (omega arith), le-leb k 5 (omega arith)))
+
+returns-3 : tie.Need-returns-3
+unfolding kindPageOf
+returns-3 c =
+    let k = c .before .before .before .args .kind in
+    simp (le-leb 0 k (omega arith), lt-leb k 3 (omega arith), le-leb 4 k (omega arith), lt-leb k 5 (omega arith))
+
+pub judge-kind-spec : {M : Type 1} → statement M
+judge-kind-spec =
+    tie.close (tie.spec judge-tone-requires judge-text-requires returns returns-2 returns-3)

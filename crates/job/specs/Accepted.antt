@@ -1,0 +1,51 @@
+-- What is known of an accepted job. `accepted-job` in proofs/Accepted.antt proves it.
+use Prim.Native.Nat.{ℕ, _+_, _*_, _≤_, _<_}
+use mathlib.Core.Path.{_≡_}
+use mathlib.Core.List.{List}
+use mathlib.Core.Bool.{true, false}
+use lib.ListN.{length, getD, take, drop}
+use Rattle.base.specs.Hex.{bytesOf}
+use Rattle.base.specs.Leading.{leading}
+use Rattle.base.specs.Lines.{split, lineAt}
+use Rattle.text.specs.Coding.{charOk, endsInSpace, groupsOf}
+use Rattle.job.specs.Line.{wellFormed, isReserved, longestOf, codingOf, functionOf, identityOf, kindOf, textPairs, textOf, lineOf}
+use Rattle.job.specs.Pages.{Page, pagesOf, pageAt}
+use Rattle.job.specs.Job.{readingOf}
+use Rattle.job.specs.declared.LineAnswer.the-variants.{Good}
+
+-- a line that none of numbers 1 to 7 declines
+pub record Sound (l : List ℕ) : Type 0 where
+  pub good : lineOf l ≡ Good (identityOf l) (kindOf l) (length (textOf l))
+  pub formed : wellFormed l ≡ true
+  pub in-range : identityOf l ≤ 0x1FFFFF
+  pub free : isReserved (identityOf l) ≡ false
+  pub known : kindOf l ≤ 5
+  pub tone : kindOf l ≤ 3 → length (textOf l) ≡ 0
+  pub some : 4 ≤ kindOf l → 1 ≤ length (textOf l)
+  pub most : length (textOf l) ≤ longestOf (kindOf l)
+  pub chars : length (textOf l) ≤ leading (charOk (codingOf (kindOf l))) (textOf l)
+  pub unspaced : endsInSpace (codingOf (kindOf l)) (textOf l) ≡ false
+  -- so the function fits its two bits, and the text takes at most 84 message codewords
+  pub function : functionOf (kindOf l) < 4
+  pub brief : groupsOf (codingOf (kindOf l)) (length (textOf l)) ≤ 84
+
+-- the page at index p: what its line says; its text stands in the job where `start` says; and what reading the job keeps of it
+pub record PageRead (s : List ℕ) (p : ℕ) : Type 0 where
+  pub identity-is : pageAt s p .identity ≡ identityOf (lineAt p (split s))
+  pub kind-is : pageAt s p .kind ≡ kindOf (lineAt p (split s))
+  pub text-is : pageAt s p .text ≡ textOf (lineAt p (split s))
+  pub inside : pageAt s p .start + 2 * length (pageAt s p .text) ≤ length s
+  pub pairs : take (2 * length (pageAt s p .text)) (drop (pageAt s p .start) s) ≡ textPairs (lineAt p (split s))
+  pub bytes : bytesOf (take (2 * length (pageAt s p .text)) (drop (pageAt s p .start) s)) ≡ pageAt s p .text
+  pub kept-identity : getD (readingOf s .identities) p 0 ≡ pageAt s p .identity
+  pub kept-kind : getD (readingOf s .kinds) p 0 ≡ pageAt s p .kind
+  pub kept-start : getD (readingOf s .starts) p 0 ≡ pageAt s p .start
+  pub kept-count : getD (readingOf s .counts) p 0 ≡ length (pageAt s p .text)
+
+-- a job of n pages: 1 to 48, each of a sound line
+pub record AcceptedJob (s : List ℕ) (n : ℕ) : Type 0 where
+  pub least : 1 ≤ n
+  pub most : n ≤ 48
+  pub pages : length (pagesOf s) ≡ n
+  pub sound : (p : ℕ) → p < n → Sound (lineAt p (split s))
+  pub page : (p : ℕ) → p < n → PageRead s p

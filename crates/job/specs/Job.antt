@@ -1,0 +1,55 @@
+-- A job: the number of its pages, or the refusal of its first faulty line; and what is kept of its pages.
+use Prim.Native.Nat.{ℕ, _+_}
+use mathlib.Core.List.{List, []}
+use mathlib.Core.Bool.{cond}
+use lib.ListN.{length}
+use lib.Dec.{leb, eqb}
+use Rattle.base.specs.Lines.{Lines, behind, line, split}
+use Rattle.base.specs.Lists.{padded}
+use Rattle.job.specs.Line.{lineOf}
+use Rattle.job.specs.Pages.{Page, pagesOf, identitiesOf, kindsOf, startsOf, countsOf}
+use Rattle.job.specs.declared.Refusal.the-variants.{Malformed, TooManyLines, EmptyJob}
+use Rattle.job.specs.declared.LineAnswer.{LineAnswer}
+use Rattle.job.specs.declared.LineAnswer.the-variants.{Good, Faulty}
+use Rattle.job.specs.declared.JobAnswer.{JobAnswer}
+use Rattle.job.specs.declared.JobAnswer.the-variants.{Accepted, Refused}
+use Rattle.job.specs.declared.Pages.{Pages}
+
+-- the first faulty line decides, with its number as the place; a good one leaves it to what follows
+abbrev pub after : LineAnswer → ℕ → JobAnswer → JobAnswer
+after (Faulty why) place rest = Refused why place
+after (Good identity kind count) place rest = rest
+
+-- the answer to what stands behind k good lines: a 49th line is number 8, whatever it is; a last line without newline is number 1
+unfoldable pub judge : ℕ → Lines → JobAnswer
+judge k (behind p) =
+    cond (eqb (length p) 0) (Accepted k)
+    (cond (leb 48 k) (Refused TooManyLines 49)
+    (Refused Malformed (k + 1)))
+judge k (line l ls) =
+    cond (leb 48 k) (Refused TooManyLines 49)
+    (after (lineOf l) (k + 1) (judge (k + 1) ls))
+
+-- the answer to a job; an empty one is number 9 with place 0
+unfoldable pub jobOf : List ℕ → JobAnswer
+jobOf s = cond (eqb (length s) 0) (Refused EmptyJob 0) (judge 0 (split s))
+
+-- an answer with what is kept of pages, zeros behind them
+unfoldable pub tableOf : JobAnswer → List Page → Pages
+tableOf a ps =
+    record {
+      answer = a;
+      identities = padded 48 (identitiesOf ps);
+      kinds = padded 48 (kindsOf ps);
+      starts = padded 48 (startsOf ps);
+      counts = padded 48 (countsOf ps);
+    }
+
+-- of a refused job no page is kept
+abbrev pub keptOf : JobAnswer → List Page → List Page
+keptOf (Accepted n) ps = ps
+keptOf (Refused why place) ps = []
+
+-- what reading a job returns
+unfoldable pub readingOf : List ℕ → Pages
+readingOf s = tableOf (jobOf s) (keptOf (jobOf s) (pagesOf s))

@@ -1,0 +1,5 @@
+pub mod Refusal
+pub mod Line
+pub mod Pages
+pub mod Job
+pub mod Accepted

@@ -1,0 +1,348 @@
+// Reads a job's page lines (document 01, "Page lines" and the table of refusals).
+ghost use mathlib.Core.Path.{_≡_};
+ghost use mathlib.Core.List.{[]};
+ghost use Prim.Native.Nat.{_*_};
+ghost use lib.ListN.{take, drop};
+ghost use Rattle.base.specs.Hex.{bytesOf};
+ghost use Rattle.job.specs.Refusal.{numberOf, jobNumber, jobPlace};
+ghost use Rattle.job.specs.Line.{isPairs, headFormed, tailFormed, wellFormed, isReserved, longestOf, codingOf, functionOf, tonePageOf, textPageOf, kindPageOf, pageOf, lineOf};
+ghost use Rattle.job.specs.Job.{tableOf, readingOf};
+use text::Coding;
+
+// Why a job is declined, in the order of the table. A text's length is wrong in one of three ways.
+pub enum Refusal {
+    Malformed,
+    IdentityRange,
+    IdentityReserved,
+    UnknownKind,
+    ToneWithText,
+    TextMissing,
+    TextTooLong,
+    Character,
+    TrailingSpace,
+    TooManyLines,
+    EmptyJob,
+}
+
+// What a page line says.
+pub enum LineAnswer {
+    // A page whose text has count characters.
+    Good {
+        identity: u32,
+        kind: u8,
+        count: usize,
+    },
+    Faulty(Refusal),
+}
+
+pub enum JobAnswer {
+    // The number of pages.
+    Accepted(usize),
+    // The place is a line, counted from 1; 0 for the job as a whole.
+    Refused { why: Refusal, place: usize },
+}
+
+// A job's answer and, of each page of an accepted one, its identity, its kind, the byte of the job at which the pairs of its text
+// start, and how many characters the text has. Zeros stand behind the last page, and everywhere where the job is refused.
+pub struct Pages {
+    pub answer: JobAnswer,
+    pub identities: [u32; 48],
+    pub kinds: [u8; 48],
+    pub starts: [usize; 48],
+    pub counts: [usize; 48],
+}
+
+// The number of a refusal.
+fn refusal_number(why: Refusal) -> u32
+    ensures { λ r. ⌜ r ≡ numberOf why ⌝ }
+{
+    match why {
+        Refusal::Malformed => 1,
+        Refusal::IdentityRange => 2,
+        Refusal::IdentityReserved => 3,
+        Refusal::UnknownKind => 4,
+        Refusal::ToneWithText => 5,
+        Refusal::TextMissing => 5,
+        Refusal::TextTooLong => 5,
+        Refusal::Character => 6,
+        Refusal::TrailingSpace => 7,
+        Refusal::TooManyLines => 8,
+        Refusal::EmptyJob => 9,
+    }
+}
+
+// The number of a job's answer in the table; 0 where the job is accepted.
+pub fn number(a: JobAnswer) -> u32
+    ensures { λ r. ⌜ r ≡ jobNumber a ⌝ }
+{
+    match a {
+        JobAnswer::Accepted(_) => 0,
+        JobAnswer::Refused { why, place: _ } => refusal_number(why),
+    }
+}
+
+// The place of a job's answer; 0 where the job is accepted.
+pub fn place(a: JobAnswer) -> usize
+    ensures { λ r. ⌜ r ≡ jobPlace a ⌝ }
+{
+    match a {
+        JobAnswer::Accepted(_) => 0,
+        JobAnswer::Refused { why: _, place } => place,
+    }
+}
+
+// Whether a text is one or more pairs of hexadecimal digits.
+fn is_pairs(t: &[u8]) -> bool
+    ensures { λ r. ⌜ r ≡ isPairs (now (t .entry)) ⌝ }
+{
+    let n = t.len();
+    if n == 0 {
+        return false;
+    }
+    if n % 2 == 0 {
+        base::hex_run(t) == n
+    } else {
+        false
+    }
+}
+
+// Whether a line begins with six digits of identity, a space and a digit of kind.
+fn head_formed(line: &[u8]) -> bool
+    ensures { λ r. ⌜ r ≡ headFormed (now (line .entry)) ⌝ }
+{
+    if line.len() < 8 {
+        return false;
+    }
+    if base::hex_run(&line[..6]) < 6 {
+        return false;
+    }
+    if line[6] != b' ' {
+        return false;
+    }
+    base::is_hex(line[7])
+}
+
+// Whether what stands behind the kind is nothing, or a space and pairs.
+fn tail_formed(t: &[u8]) -> bool
+    ensures { λ r. ⌜ r ≡ tailFormed (now (t .entry)) ⌝ }
+{
+    if t.len() == 0 {
+        return true;
+    }
+    if t[0] != b' ' {
+        return false;
+    }
+    is_pairs(&t[1..])
+}
+
+// Whether a line, without its newline, has the form of a page line.
+fn well_formed(line: &[u8]) -> bool
+    ensures { λ r. ⌜ r ≡ wellFormed (now (line .entry)) ⌝ }
+{
+    if !head_formed(line) {
+        return false;
+    }
+    tail_formed(&line[8..])
+}
+
+// Whether an identity has the upper address value of idle or of sync.
+pub fn is_reserved(identity: u32) -> bool
+    ensures { λ r. ⌜ r ≡ isReserved identity ⌝ }
+{
+    let upper = identity / 8;
+    match upper {
+        250958 | 255632 => true,
+        _ => false,
+    }
+}
+
+// The most characters of a kind's text.
+fn longest(kind: u8) -> usize
+    ensures { λ r. ⌜ r ≡ longestOf kind ⌝ }
+{
+    match kind {
+        0..=3 => 0,
+        4 => 60,
+        _ => 240,
+    }
+}
+
+// How a kind's text is coded.
+pub fn coding(kind: u8) -> Coding
+    ensures { λ r. ⌜ r ≡ codingOf kind ⌝ }
+{
+    match kind {
+        4 => Coding::Numeric,
+        _ => Coding::Alphanumeric,
+    }
+}
+
+// The function with which a kind is sent.
+pub fn function(kind: u8) -> u32
+    ensures { λ r. ⌜ r ≡ functionOf kind ⌝ }
+{
+    match kind {
+        4 => 0,
+        5 => 3,
+        _ => kind as u32,
+    }
+}
+
+// A tone, or number 5.
+fn judge_tone(identity: u32, kind: u8, text: &[u8]) -> LineAnswer
+    ensures { λ r. ⌜ r ≡ tonePageOf identity kind (bytesOf (now (text .entry))) ⌝ }
+{
+    let n = text.len() / 2;
+    if n == 0 {
+        LineAnswer::Good {
+            identity: identity,
+            kind: kind,
+            count: n,
+        }
+    } else {
+        LineAnswer::Faulty(Refusal::ToneWithText)
+    }
+}
+
+// A page with a text, or the lowest of numbers 5 to 7.
+fn judge_text(identity: u32, kind: u8, text: &[u8]) -> LineAnswer
+    ensures { λ r. ⌜ r ≡ textPageOf identity kind (bytesOf (now (text .entry))) ⌝ }
+{
+    let n = text.len() / 2;
+    if n == 0 {
+        return LineAnswer::Faulty(Refusal::TextMissing);
+    }
+    if longest(kind) < n {
+        return LineAnswer::Faulty(Refusal::TextTooLong);
+    }
+    let c = coding(kind);
+    if text::char_run(c, text) < n {
+        return LineAnswer::Faulty(Refusal::Character);
+    }
+    if text::ends_in_space(c, text) {
+        return LineAnswer::Faulty(Refusal::TrailingSpace);
+    }
+    LineAnswer::Good {
+        identity: identity,
+        kind: kind,
+        count: n,
+    }
+}
+
+// The page by its kind, or the lowest of numbers 4 to 7.
+fn judge_kind(identity: u32, kind: u8, text: &[u8]) -> LineAnswer
+    ensures { λ r. ⌜ r ≡ kindPageOf identity kind (bytesOf (now (text .entry))) ⌝ }
+{
+    match kind {
+        0..=3 => judge_tone(identity, kind, text),
+        4 | 5 => judge_text(identity, kind, text),
+        _ => LineAnswer::Faulty(Refusal::UnknownKind),
+    }
+}
+
+// The page of a well-formed line, or the lowest of numbers 2 to 7.
+fn judge_page(identity: u32, kind: u8, text: &[u8]) -> LineAnswer
+    ensures { λ r. ⌜ r ≡ pageOf identity kind (bytesOf (now (text .entry))) ⌝ }
+{
+    if 0x1FFFFF < identity {
+        return LineAnswer::Faulty(Refusal::IdentityRange);
+    }
+    if is_reserved(identity) {
+        return LineAnswer::Faulty(Refusal::IdentityReserved);
+    }
+    judge_kind(identity, kind, text)
+}
+
+// What a line, without its newline, says.
+pub fn read_line(line: &[u8]) -> LineAnswer
+    ensures { λ r. ⌜ r ≡ lineOf (now (line .entry)) ⌝ }
+{
+    if !well_formed(line) {
+        return LineAnswer::Faulty(Refusal::Malformed);
+    }
+    let identity = base::hex_number(&line[..6]);
+    let kind = base::hex_value(line[7]);
+    if line.len() < 9 {
+        judge_page(identity, kind, &line[..0])
+    } else {
+        judge_page(identity, kind, &line[9..])
+    }
+}
+
+// A refused job: no page is kept.
+fn refused(why: Refusal, place: usize) -> Pages
+    ensures { λ r. ⌜ r ≡ tableOf (JobAnswer.Refused why place) [] ⌝ }
+{
+    Pages {
+        answer: JobAnswer::Refused {
+            why: why,
+            place: place,
+        },
+        identities: [0u32; 48],
+        kinds: [0u8; 48],
+        starts: [0usize; 48],
+        counts: [0usize; 48],
+    }
+}
+
+// The pages of a job, or the refusal of its first faulty line. The job is read once, line by line.
+pub fn read_job(job: &[u8]) -> Pages
+    ensures { λ r. ⌜ r ≡ readingOf (now (job .entry)) ⌝ }
+{
+    if job.len() == 0 {
+        return refused(Refusal::EmptyJob, 0);
+    }
+    let mut identities = [0u32; 48];
+    let mut kinds = [0u8; 48];
+    let mut starts = [0usize; 48];
+    let mut counts = [0usize; 48];
+    let mut at = 0;
+    let mut k = 0;
+    while at < job.len() {
+        if 48 <= k {
+            return refused(Refusal::TooManyLines, 49);
+        }
+        let end = base::line_end(job, at);
+        if job.len() <= end {
+            return refused(Refusal::Malformed, k + 1);
+        }
+        let line = read_line(&job[at..end]);
+        match line {
+            LineAnswer::Faulty(why) => return refused(why, k + 1),
+            LineAnswer::Good {
+                identity,
+                kind,
+                count,
+            } => {
+                identities[k] = identity;
+                kinds[k] = kind;
+                starts[k] = at + 9;
+                counts[k] = count;
+                at = end + 1;
+                k += 1;
+            }
+        }
+    }
+    Pages {
+        answer: JobAnswer::Accepted(k),
+        identities: identities,
+        kinds: kinds,
+        starts: starts,
+        counts: counts,
+    }
+}
+
+// The pairs of a page's text, a part of the job that starts mid-line: count pairs from start on, or what is left of them.
+pub fn page_text(job: &[u8], start: usize, count: usize) -> &[u8]
+    ensures { λ r. ⌜ now r ≡ take (2 * count) (drop start (now (job .entry))) ⌝ }
+{
+    if job.len() < start {
+        return &job[..0];
+    }
+    let left = job.len() - start;
+    if left / 2 < count {
+        return &job[start..];
+    }
+    let end = start + 2 * count;
+    &job[start..end]
+}
