@@ -30,6 +30,6 @@ correction-theorem =
       reads = λ w c h n. nearest-is w h c n;
       reads-near = λ w c h e. nearest-near w h c e;
       refuses = nearest-none;
-      refusal = λ w h f. ap (λ (o : Option ℕ). numberOf (answer o)) (nearest-none w h f);
+      refusal = λ w h f. (ap (λ (o : Option ℕ). numberOf (answer o)) (nearest-none w h f), refl);
       refusal-far = λ w h e. none-near w h (number-none (nearest w) e);
     }

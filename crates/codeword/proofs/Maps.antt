@@ -1,6 +1,5 @@
--- Maps of words made of shifts, low bits and sums modulo 2. Two of these, or one and the remainder, are the same on all words of k bits
--- when they are the same on the k words of a single one, which antt computes.
--- Assumes nothing.
+-- Maps of words made of shifts, low bits and sums modulo 2 are linear; and two linear maps are the same on all words of k bits
+-- when they are the same at 0 and at the k words of a single one, which antt computes. Assumes nothing.
 use mathlib.Core.Path.{_≡_, refl, sym, ap, ap₂, _∙_, subst}
 use mathlib.Core.Bool.{Bool, _&&_}
 use mathlib.Core.Logic.{_⊎_, inl, inr, ⊎-elim}

@@ -4,7 +4,7 @@ use mathlib.Core.Option.{none, some}
 use Prim.Native.Nat.{ℕ, _^_, _≤_, _<_}
 use lib.Bits.{bitXor}
 use lib.Dec.{T}
-use Rattle.codeword.specs.Answer.{answer, numberOf}
+use Rattle.codeword.specs.Answer.{answer, numberOf, placeOf}
 use Rattle.codeword.specs.Code.{remainder, codeword, obeys, sync, idle, addressBits, messageBits}
 use Rattle.codeword.specs.Nearest.{distance, nearest}
 
@@ -36,7 +36,7 @@ pub record CorrectionTheorem : Type 0 where
   -- a word reads as the codeword at most two bits away, and as nothing else
   pub reads : (w c : ℕ) → w < 2 ^ 32 → Near w c → nearest w ≡ some c
   pub reads-near : (w c : ℕ) → w < 2 ^ 32 → nearest w ≡ some c → Near w c
-  -- any other word is refused: number 20 is given exactly where no codeword is at most two bits away
+  -- any other word is refused: number 20, place 0, is given exactly where no codeword is at most two bits away
   pub refuses : (w : ℕ) → w < 2 ^ 32 → Far w → nearest w ≡ none
-  pub refusal : (w : ℕ) → w < 2 ^ 32 → Far w → numberOf (answer (nearest w)) ≡ 20
+  pub refusal : (w : ℕ) → w < 2 ^ 32 → Far w → (numberOf (answer (nearest w)) ≡ 20) × (placeOf (answer (nearest w)) ≡ 0)
   pub refusal-far : (w : ℕ) → w < 2 ^ 32 → numberOf (answer (nearest w)) ≡ 20 → Far w
