@@ -6,10 +6,9 @@ use native.Mathlib.Numerals.{add-one}
 use native.Mathlib.Omega.{arith}
 use borrow.Author.Tests.{ne-eqb}
 use lib.ListN.{length, set, getD, take, drop, replicate, length-drop, length-map, List·getD-map}
-use lib.Seq.{length-take-le}
 use Rattle.base.specs.Lines.{split, lineEnd}
 use Rattle.base.specs.Lists.{padded}
-use Rattle.base.proofs.LinesLaws.{end-after, none-left, cut}
+use Rattle.base.proofs.LinesLaws.{none-left}
 use Rattle.base.proofs.ListLaws.{filled, filled-turn, filled-over, over-zeros}
 use Rattle.job.specs.Line.{lineOf, identityOf, kindOf, textOf}
 use Rattle.job.specs.Pages.{Page, pageFrom, pagesFrom, pagesOf, noPage, identitiesOf, kindsOf, startsOf, countsOf}
@@ -18,7 +17,7 @@ use Rattle.job.specs.declared.Refusal.{Refusal}
 use Rattle.job.specs.declared.LineAnswer.the-variants.{Good}
 use Rattle.job.specs.declared.JobAnswer.the-variants.{Accepted, Refused}
 use Rattle.job.specs.declared.Pages.{Pages}
-use Rattle.job.proofs.Laws.{judge-done, judge-line}
+use Rattle.job.proofs.Laws.{judge-done, judge-line, first, pages-next}
 use Rattle.job.proofs.Sound.{sound}
 
 -- the element at k of a list, and what follows it, by what is left from there on
@@ -60,28 +59,16 @@ keeping-none job h =
     }
 
 module _ (job : List ℕ) (at k : ℕ) {is ks ss cs : List ℕ} (so : Keeping job at k is ks ss cs) where
-  -- the first line that is left
-  abbrev first : List ℕ
-  first = take (lineEnd job at - at) (drop at job)
-
-  first-length : lineEnd job at < length job → length first ≡ lineEnd job at - at
-  first-length h = length-take-le (lineEnd job at - at) (drop at job) (omega (arith, length-drop at job))
-
-  next-left : lineEnd job at < length job → drop k (pagesOf job) ≡ pageFrom at first ∷ pagesFrom (lineEnd job at + 1) (split (drop (lineEnd job at + 1) job))
-  unfolding pagesFrom
-  next-left h =
-      let e : at + length first + 1 ≡ lineEnd job at + 1 = omega (arith, first-length h, end-after job at) in
-      so .left ∙ ap (pagesFrom at) (cut job at h) ∙ ap (λ (x : ℕ). pageFrom at first ∷ pagesFrom x (split (drop (lineEnd job at + 1) job))) e
-
-  one-more : {i kind n : ℕ} → k < 48 → lineEnd job at < length job → lineOf first ≡ Good i kind n
+  one-more : {i kind n : ℕ} → k < 48 → lineEnd job at < length job → lineOf (first job at) ≡ Good i kind n
       → Keeping job (lineEnd job at + 1) (k + 1) (set is k i) (set ks k kind) (set ss k (at + 9)) (set cs k n)
   one-more {i} {kind} {n} m h e =
       let ps = pagesOf job in
-      let f = from-drop ps k noPage (next-left h) in
+      let l = first job at in
+      let f = from-drop ps k noPage (so .left ∙ pages-next job at h) in
       let here : k < length ps = f .0 in
-      let g : Good i kind n ≡ Good (identityOf first) (kindOf first) (length (textOf first)) = sym e ∙ sound first e .good in
+      let g : Good i kind n ≡ Good (identityOf l) (kindOf l) (length (textOf l)) = sym e ∙ sound l e .good in
       let sized : (field : Page → ℕ) → k < length (map field ps) = λ field. rw (length-map ps field) here in
-      let at-k : (field : Page → ℕ) → getD (map field ps) k (field noPage) ≡ field (pageFrom at first) = λ field. List·getD-map field ps k noPage ∙ ap field (f .1) in
+      let at-k : (field : Page → ℕ) → getD (map field ps) k (field noPage) ≡ field (pageFrom at l) = λ field. List·getD-map field ps k noPage ∙ ap field (f .1) in
       record {
         inside = omega arith;
         few = omega arith;

@@ -1,18 +1,20 @@
 -- Laws of the definitions of `specs/`: what a line and a job say, case by case. Assumes nothing.
-use Prim.Native.Nat.{ℕ, suc, _+_, _-_, _≤_, _<_}
-use mathlib.Core.Path.{_≡_}
-use mathlib.Core.List.{List}
+use Prim.Native.Nat.{ℕ, _+_, _-_, _≤_, _<_}
+use mathlib.Core.Path.{_≡_, ap, _∙_}
+use mathlib.Core.List.{List, [], _∷_}
 use mathlib.Core.Bool.{true}
 use mathlib.Core.Logic.{⊎-elim}
 use native.Mathlib.Omega.{arith}
 use lib.ListN.{length, take, drop, length-drop}
+use lib.Seq.{length-take-le}
 use lib.Dec.{leb}
 use borrow.Author.Tests.{le-leb, lt-leb, eq-eqb, ne-eqb, leb-true}
 use native.Mathlib.Nat.{eq-or-lt-of-le}
 use Rattle.base.specs.Lines.{split, lineEnd}
 use Rattle.base.proofs.Bools.{and-true}
-use Rattle.base.proofs.LinesLaws.{end-inside, none-left, cut, uncut}
+use Rattle.base.proofs.LinesLaws.{end-after, end-inside, none-left, cut, uncut}
 use Rattle.job.specs.Line.{headFormed, wellFormed, lineOf}
+use Rattle.job.specs.Pages.{pageFrom, pagesFrom}
 use Rattle.job.specs.Job.{after, judge, jobOf}
 use Rattle.job.specs.declared.Refusal.the-variants.{Malformed, TooManyLines, EmptyJob}
 use Rattle.job.specs.declared.LineAnswer.{LineAnswer}
@@ -55,3 +57,21 @@ module _ (job : List ℕ) (at k : ℕ) where
       → judge k (split (drop at job)) ≡ after x (k + 1) (judge (k + 1) (split (drop (end + 1) job)))
   unfolding judge
   judge-line q m h e = rw (e, q, cut job at (rw q at h)) (simp (lt-leb 48 k m))
+
+-- The first line that is left, and the pages that follow its page.
+module _ (s : List ℕ) (at : ℕ) where
+  abbrev pub first : List ℕ
+  first = take (lineEnd s at - at) (drop at s)
+
+  pub first-length : lineEnd s at < length s → length first ≡ lineEnd s at - at
+  first-length h = length-take-le (lineEnd s at - at) (drop at s) (omega (arith, length-drop at s))
+
+  pub pages-next : lineEnd s at < length s → pagesFrom at (split (drop at s)) ≡ pageFrom at first ∷ pagesFrom (lineEnd s at + 1) (split (drop (lineEnd s at + 1) s))
+  unfolding pagesFrom
+  pages-next h =
+      let e : at + length first + 1 ≡ lineEnd s at + 1 = omega (arith, first-length h, end-after s at) in
+      ap (pagesFrom at) (cut s at h) ∙ ap (λ (x : ℕ). pageFrom at first ∷ pagesFrom x (split (drop (lineEnd s at + 1) s))) e
+
+  pub pages-none : at ≤ length s → length s ≤ lineEnd s at → pagesFrom at (split (drop at s)) ≡ []
+  unfolding pagesFrom
+  pages-none h u = rw (uncut s at h u)

@@ -9,7 +9,7 @@ use Rattle.base.specs.Leading.{leading}
 use Rattle.base.specs.Lines.{split, lineAt}
 use Rattle.text.specs.Coding.{charOk, endsInSpace, groupsOf}
 use Rattle.job.specs.Line.{wellFormed, isReserved, longestOf, codingOf, functionOf, identityOf, kindOf, textPairs, textOf, lineOf}
-use Rattle.job.specs.Pages.{Page, pagesOf, pageAt}
+use Rattle.job.specs.Pages.{pagesOf, pageAt}
 use Rattle.job.specs.Job.{readingOf}
 use Rattle.job.specs.declared.LineAnswer.the-variants.{Good}
 

@@ -1,8 +1,8 @@
 -- `job::page_text` meets its contract. Assumes nothing.
 use Prim.Native.Nat.{_+_, _-_, _*_}
-use mathlib.Core.Path.{_≡_, sym, ap, _∙_}
+use mathlib.Core.Path.{_≡_, sym, _∙_}
 use native.Mathlib.Omega.{arith}
-use lib.ListN.{length, take, drop, length-drop, drop-of-length-le}
+use lib.ListN.{drop, length-drop, drop-of-length-le}
 use lib.Seq.{take-all, take-nil}
 use denote.Ref.{now}
 use borrow.Author.Needs.{needs}

@@ -1,0 +1,187 @@
+-- An accepted job: its pages, each of a sound line, and where their texts stand. Assumes nothing.
+use Prim.Native.Nat.{ℕ, zero, suc, _+_, _-_, _*_, _%_, _≤_, _<_, zero-le}
+use mathlib.Core.Path.{_≡_, refl, sym, ap, _∙_}
+use mathlib.Core.List.{List, [], _∷_, map}
+use mathlib.Core.Bool.{Bool, true, false, cond, not, _&&_}
+use mathlib.Core.Logic.{⊎-elim}
+use native.Mathlib.Nat.{eq-or-lt-of-le}
+use native.Mathlib.Omega.{arith}
+use lib.ListN.{length, getD, take, drop, replicate, length-drop, length-map, List·getD-append, List·getD-map}
+use lib.Seq.{take-nil, drop-drop}
+use lib.Dec.{leb, eqb}
+use borrow.Author.Tests.{leb-false, eqb-true, eqb-false}
+use Rattle.base.specs.Hex.{bytesOf}
+use Rattle.base.specs.Lines.{Lines, behind, line, split, lineAt, lineEnd}
+use Rattle.base.specs.Lists.{padded}
+use Rattle.base.proofs.Bools.{and-true, or-true}
+use Rattle.base.proofs.HexLaws.{bytes-length}
+use Rattle.base.proofs.LinesLaws.{end-after, end-inside, cut}
+use Rattle.job.specs.Line.{allHex, isPairs, headFormed, tailFormed, wellFormed, lineOf, textPairs, textOf}
+use Rattle.job.specs.Pages.{Page, pageFrom, pagesFrom, pagesOf, noPage, pageAt}
+use Rattle.job.specs.Job.{after, judge, jobOf, tableOf, readingOf}
+use Rattle.job.specs.Accepted.{Sound, PageRead, AcceptedJob}
+use Rattle.job.specs.declared.Refusal.{Refusal}
+use Rattle.job.specs.declared.Refusal.the-variants.{Malformed, TooManyLines, EmptyJob}
+use Rattle.job.specs.declared.LineAnswer.{LineAnswer}
+use Rattle.job.specs.declared.LineAnswer.the-variants.{Good, Faulty}
+use Rattle.job.specs.declared.JobAnswer.{JobAnswer}
+use Rattle.job.specs.declared.JobAnswer.the-variants.{Accepted, Refused}
+use Rattle.job.proofs.Laws.{formed-long, judge-unended, first-length, pages-next, pages-none}
+use Rattle.job.proofs.Sound.{sound}
+
+-- ---- what an accepting answer says of the tests that led to it
+
+not-refused : (b : Bool) (w : Refusal) (p : ℕ) (x : JobAnswer) {n : ℕ} → cond b (Refused w p) x ≡ Accepted n → (b ≡ false) × (x ≡ Accepted n)
+not-refused true w p x e = let z : _≡_ {A = ℕ} 0 1 = cc in absurd (omega arith)
+not-refused false w p x e = (refl, e)
+
+end-accepted : (b : Bool) (k : ℕ) (x : JobAnswer) {n : ℕ} → ((m : ℕ) → x ≡ Accepted m → ⊥) → cond b (Accepted k) x ≡ Accepted n → k ≡ n
+end-accepted true k x f e = cc
+end-accepted false k x {n} f e = absurd (f n e)
+
+after-good : (x : LineAnswer) (p : ℕ) (r : JobAnswer) {n : ℕ} → after x p r ≡ Accepted n → (r ≡ Accepted n) × ((l : List ℕ) → lineOf l ≡ x → Sound l)
+after-good (Good i k c) p r e = (e, λ l q. sound l q)
+after-good (Faulty w) p r e = let z : _≡_ {A = ℕ} 0 1 = cc in absurd (omega arith)
+
+-- ---- the lines
+
+-- lines that are accepted behind k good ones
+record Judged (at k n : ℕ) (ls : Lines) : Type 0 where
+  count : k + length (pagesFrom at ls) ≡ n
+  few : n ≤ 48
+  each : (p : ℕ) → k + p < n → Sound (lineAt p ls)
+
+each-more : (l : List ℕ) (ls : Lines) (k n : ℕ) → Sound l → ((p : ℕ) → k + 1 + p < n → Sound (lineAt p ls)) → (p : ℕ) → k + p < n → Sound (lineAt p (line l ls))
+unfolding lineAt
+each-more l ls k n s f zero h = s
+each-more l ls k n s f (suc p) h = f p (omega arith)
+
+judged : (ls : Lines) (at k n : ℕ) → k ≤ 48 → judge k ls ≡ Accepted n → Judged at k n ls
+unfolding judge pagesFrom
+judged (behind p) at k n h e =
+    let q = end-accepted (eqb (length p) 0) k (cond (leb 48 k) (Refused TooManyLines 49) (Refused Malformed (k + 1)))
+    (λ m f. let x = not-refused (leb 48 k) TooManyLines 49 (Refused Malformed (k + 1)) f in
+    let z : _≡_ {A = ℕ} 0 1 = cc in omega arith) e in
+    record { count = omega arith; few = omega arith; each = λ i l. absurd (omega arith) }
+judged (line l ls) at k n h e =
+    let x = not-refused (leb 48 k) TooManyLines 49 (after (lineOf l) (k + 1) (judge (k + 1) ls)) e in
+    let a = after-good (lineOf l) (k + 1) (judge (k + 1) ls) (x .1) in
+    let r = judged ls (at + length l + 1) (k + 1) n (omega (arith, leb-false 48 k (x .0))) (a .0) in
+    record { count = omega (arith, r .count); few = r .few; each = each-more l ls k n (a .1 l refl) (r .each) }
+
+-- ---- where a page's line stands in the job
+
+record Stands (s : List ℕ) (x : Page) (l : List ℕ) : Type 0 where
+  byte : ℕ
+  page : x ≡ pageFrom byte l
+  inside : byte + length l < length s
+  there : take (length l) (drop byte s) ≡ l
+
+some-line : (s : List ℕ) (at : ℕ) → at ≤ length s → 0 < length (pagesFrom at (split (drop at s))) → lineEnd s at < length s
+some-line s at h i =
+    ⊎-elim (λ u. absurd (omega (arith, ap length (pages-none s at h (omega arith))))) (λ c. c) (eq-or-lt-of-le (end-inside s at h))
+
+stands : (s : List ℕ) (p at : ℕ) → at ≤ length s → p < length (pagesFrom at (split (drop at s))) → Stands s (getD (pagesFrom at (split (drop at s))) p noPage) (lineAt p (split (drop at s)))
+unfolding lineAt
+stands s zero at h i =
+    let c = some-line s at h i in
+    rw (pages-next s at c, cut s at c)
+    (record {
+      byte = at;
+      page = refl;
+      inside = omega (arith, first-length s at c, end-after s at);
+      there = ap (λ (n : ℕ). take n (drop at s)) (first-length s at c);
+    })
+stands s (suc p) at h i =
+    let c = some-line s at h (omega arith) in
+    rw (pages-next s at c, cut s at c) (stands s p (lineEnd s at + 1) (omega arith) (omega (arith, ap length (pages-next s at c))))
+
+-- ---- a page's text
+
+drop-take : (m n : ℕ) (l : List ℕ) → drop m (take n l) ≡ take (n - m) (drop m l)
+drop-take zero n l = let e : n - 0 ≡ n = omega arith in rw e
+drop-take (suc m) zero l = let e : 0 - suc m ≡ 0 = omega arith in rw e
+drop-take (suc m) (suc n) [] = sym (take-nil (suc n - suc m))
+drop-take (suc m) (suc n) (x ∷ l) = let e : suc n - suc m ≡ n - m = omega arith in rw e (drop-take m n l)
+
+-- what stands behind a well-formed line's ninth byte are pairs
+even : (t : List ℕ) → tailFormed t ≡ true → length (drop 1 t) % 2 ≡ 0
+unfolding tailFormed isPairs
+even t e =
+    ⊎-elim
+    (λ z. omega (arith, length-drop 1 t, eqb-true (length t) 0 z))
+    (λ z. let h = and-true (eqb (getD t 0 0) 32) (isPairs (drop 1 t)) z in
+    let i = and-true (not (eqb (length (drop 1 t)) 0)) (eqb (length (drop 1 t) % 2) 0 && allHex (drop 1 t)) (h .1) in
+    eqb-true (length (drop 1 t) % 2) 0 (and-true (eqb (length (drop 1 t) % 2) 0) (allHex (drop 1 t)) (i .1) .0))
+    (or-true (eqb (length t) 0) (eqb (getD t 0 0) 32 && isPairs (drop 1 t)) e)
+
+text-length : (l : List ℕ) → wellFormed l ≡ true → 2 * length (textOf l) ≡ length l - 9
+unfolding wellFormed
+text-length l e =
+    let h = even (drop 8 l) (and-true (headFormed l) (tailFormed (drop 8 l)) e .1) in
+    omega (arith, bytes-length (textPairs l), length-drop 9 l, length-drop 1 (drop 8 l), length-drop 8 l)
+
+module _ (s : List ℕ) (l : List ℕ) (b : ℕ) (formed : wellFormed l ≡ true) (inside : b + length l < length s) (there : take (length l) (drop b s) ≡ l) where
+  text-inside : b + 9 + 2 * length (textOf l) ≤ length s
+  text-inside = omega (arith, text-length l formed, formed-long l formed)
+
+  text-there : take (2 * length (textOf l)) (drop (b + 9) s) ≡ textPairs l
+  text-there = rw (text-length l formed, ← drop-drop 9 b s, ← drop-take 9 (length l) (drop b s), there)
+
+-- ---- an accepted job
+
+module _ (s : List ℕ) (n : ℕ) (ok : jobOf s ≡ Accepted n) where
+  nonempty : (length s ≡ 0 → ⊥) × (judge 0 (split s) ≡ Accepted n)
+  unfolding jobOf
+  nonempty = let x = not-refused (eqb (length s) 0) EmptyJob 0 (judge 0 (split s)) ok in (eqb-false (length s) 0 (x .0), x .1)
+
+  all : Judged 0 0 n (split s)
+  all = judged (split s) 0 0 n zero-le (nonempty .1)
+
+  counted : length (pagesOf s) ≡ n
+  unfolding pagesOf
+  counted = omega (arith, all .count)
+
+  least : 1 ≤ n
+  unfolding pagesOf
+  least =
+      ⊎-elim
+      (λ u. let q : Refused Malformed (0 + 1) ≡ Accepted n = sym (judge-unended s 0 0 (omega arith) (let h = nonempty .0 in omega arith) (omega arith)) ∙ nonempty .1 in
+      let z : _≡_ {A = ℕ} 0 1 = cc in absurd (omega arith))
+      (λ c. omega (arith, counted, ap length (pages-next s 0 c)))
+      (eq-or-lt-of-le (end-inside s 0 zero-le))
+
+  -- a field of page p as it is kept
+  kept-at : (field : Page → ℕ) (p : ℕ) → p < n → getD (padded 48 (map field (pagesOf s))) p (field noPage) ≡ field (pageAt s p)
+  kept-at field p h =
+      List·getD-append (map field (pagesOf s)) (replicate (48 - length (map field (pagesOf s))) 0) (field noPage) p (omega (arith, counted, length-map (pagesOf s) field))
+      ∙ List·getD-map field (pagesOf s) p noPage
+
+  place : (p : ℕ) → p < n → Stands s (pageAt s p) (lineAt p (split s))
+  unfolding pagesOf
+  place p h = stands s p 0 zero-le (omega (arith, counted))
+
+  sounds : (p : ℕ) → p < n → Sound (lineAt p (split s))
+  sounds p h = all .each p (omega arith)
+
+  page : (p : ℕ) → p < n → PageRead s p
+  unfolding readingOf tableOf
+  page p h =
+      let w = place p h in
+      let l = lineAt p (split s) in
+      let formed = sounds p h .formed in
+      record {
+        identity-is = ap (λ (x : Page). x .identity) (w .page);
+        kind-is = ap (λ (x : Page). x .kind) (w .page);
+        text-is = ap (λ (x : Page). x .text) (w .page);
+        inside = rw (w .page) (text-inside s l (w .byte) formed (w .inside) (w .there));
+        pairs = rw (w .page) (text-there s l (w .byte) formed (w .inside) (w .there));
+        bytes = rw (w .page) (ap bytesOf (text-there s l (w .byte) formed (w .inside) (w .there)));
+        kept-identity = rw ok (kept-at (λ x. x .identity) p h);
+        kept-kind = rw ok (kept-at (λ x. x .kind) p h);
+        kept-start = rw ok (kept-at (λ x. x .start) p h);
+        kept-count = rw ok (kept-at (λ x. length (x .text)) p h);
+      }
+
+  pub accepted-job : AcceptedJob s n
+  accepted-job = record { least = least; most = all .few; pages = counted; sound = sounds; page = page }
