@@ -1,0 +1,4 @@
+pub mod Sending
+pub mod Transmission
+pub mod Report
+pub mod Transmitted
