@@ -1,9 +1,9 @@
 -- Laws of numbers given by their bits, the first the least significant (`fromLow`) or the most significant (`bitsFrom`). Assumes nothing.
 use Prim.Native.Nat.{ℕ, zero, suc, _+_, _-_, _*_, _/_, _%_, _^_, _≤_, _<_}
-use mathlib.Core.Path.{_≡_, refl, ap, ap₂, sym, _∙_}
+use mathlib.Core.Path.{_≡_, refl, ap, sym, _∙_}
 use native.Mathlib.Nat.{add-mul, mul-assoc, mul-comm, mul-le-mul-right, pow-suc, pow-succ'}
 use native.Mathlib.Omega.{arith}
-use lib.Pow.{pow-add, shr-shr, high, mod-pow-add, pow-pos}
+use lib.Pow.{pow-add, high, mod-pow-add}
 use Rattle.text.specs.Coding.{bitsFrom, turnedOf}
 use Rattle.text.specs.Heard.{fromLow}
 
@@ -59,6 +59,10 @@ module _ (bit : ℕ → ℕ) (small : (p : ℕ) → bit p ≤ 1) where
       ∙ low-first (λ b. bit (p + b)) (λ b. small (p + b)) m
       ∙ ap bit z
 
+-- what stands above the low n bits doesn't matter to one of them
+pub cut-bit : (v n p : ℕ) → p < n → v % 2 ^ n / 2 ^ p % 2 ≡ v / 2 ^ p % 2
+cut-bit v n p h = ap (λ (x : ℕ). x / 2 ^ p % 2) (sym (low-bits v n)) ∙ low-bit (λ b. v / 2 ^ b % 2) (λ b. omega arith) n p h
+
 -- ---- the first bit the most significant
 
 -- the same number by the bits from the last
@@ -71,3 +75,21 @@ bits-low bit at (suc n) acc =
     let d = add-mul (acc * 2) (bit at) (2 ^ n) in
     let f : acc * 2 * 2 ^ n ≡ acc * 2 ^ suc n = rw (pow-succ' 2 n) (mul-assoc acc 2 (2 ^ n)) in
     rw e (bits-low bit (at + 1) n (acc * 2 + bit at) ∙ omega arith)
+
+-- bits turned round
+pub turned-low : (n x : ℕ) → turnedOf n x ≡ fromLow (λ b. x / 2 ^ (n - (b + 1)) % 2) n
+unfolding turnedOf
+turned-low n x = bits-low (λ p. x / 2 ^ p % 2) 0 n 0 ∙ omega (arith, low-same (λ b. x / 2 ^ (0 + (n - (b + 1))) % 2) (λ b. x / 2 ^ (n - (b + 1)) % 2) n (λ b h. let e : 0 + (n - (b + 1)) ≡ n - (b + 1) = omega arith in rw e))
+
+-- the loop that turns bits round: its start, one more bit, and its end
+pub turned-start : (n x : ℕ) → turnedOf n x ≡ bitsFrom (λ p. x / 2 ^ p % 2) 0 (n - 0) 0
+unfolding turnedOf
+turned-start n x = let e : n ≡ n - 0 = omega arith in ap (λ (m : ℕ). bitsFrom (λ p. x / 2 ^ p % 2) 0 m 0) e
+
+pub bits-more : (bit : ℕ → ℕ) (j n acc : ℕ) → j < n → bitsFrom bit j (n - j) acc ≡ bitsFrom bit (j + 1) (n - (j + 1)) (acc * 2 + bit j)
+unfolding bitsFrom
+bits-more bit j n acc h = let e : n - j ≡ suc (n - (j + 1)) = omega arith in rw e
+
+pub bits-none : (bit : ℕ → ℕ) (j n acc : ℕ) → n ≤ j → bitsFrom bit j (n - j) acc ≡ acc
+unfolding bitsFrom
+bits-none bit j n acc h = let e : n - j ≡ 0 = omega arith in rw e

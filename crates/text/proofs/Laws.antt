@@ -1,16 +1,9 @@
 -- Laws of the definitions of `specs/`, by which loops and callers reason about them. Assumes nothing.
-use Prim.Native.Nat.{ℕ, zero, suc, _+_, _-_, _*_, _/_, _%_, _^_, _≤_, _<_}
+use Prim.Native.Nat.{ℕ, suc, _+_, _-_, _*_, _%_, _^_, _≤_, _<_}
 use mathlib.Core.Path.{_≡_, refl, ap, sym}
-use mathlib.Core.List.{List, [], _∷_}
-use mathlib.Core.Bool.{Bool, true, false, cond, _&&_}
-use native.Mathlib.Numerals.{add-one}
-use lib.Dec.{T, leb, leb→le}
+use mathlib.Core.List.{List}
 use lib.Pow.{pow-add}
 use native.Mathlib.Omega.{arith}
-use lib.ListN.{length, getD, drop, drop-of-length-le}
-use lib.Seq.{drop-cons}
-use Rattle.base.specs.Hex.{hexOf, hexNumber, bytesOf}
-use Rattle.base.specs.Leading.{leading}
 use Rattle.text.specs.Coding.{widthOf, bitOf, bitsFrom, groupOf}
 use Rattle.text.specs.declared.Coding.{Coding}
 use Rattle.text.specs.declared.Coding.the-variants.{Numeric, Alphanumeric}

@@ -4,7 +4,7 @@ use mathlib.Core.Bool.{Bool, true, false, not, cond}
 use mathlib.Core.List.{List, [], _∷_, _++_, map}
 use Prim.Native.Nat.{ℕ, zero, suc, _+_, _-_, _*_, _/_, _%_, _^_, _≤_, _<_}
 use native.Mathlib.Omega.{arith}
-use lib.ListN.{length, getD, take, replicate}
+use lib.ListN.{length, getD, replicate}
 use lib.Dec.{leb, eqb}
 use borrow.Author.Tests.{leb-true, eqb-true, ne-eqb, le-leb}
 use Rattle.base.specs.Hex.{between}
@@ -15,7 +15,7 @@ use Rattle.base.proofs.LeadingLaws.{leading-cons}
 use Rattle.base.proofs.ListLaws.{tab-length, tab-at, tab-same, tab-list}
 use Rattle.text.specs.Numeric.{numericOf, numericByte}
 use Rattle.text.specs.Coding.{charOk, hasValue, valueOr0, endsInSpace, widthOf, fillOf, valueOf, bitOf, groupOf, groupsOf, groupsIn}
-use Rattle.text.specs.Heard.{bitIn, charIn, shown, charHeard, wholeIn, charsIn, ahead, trimmed, goesOn, untilEnd, heardText}
+use Rattle.text.specs.Heard.{bitIn, shown, charHeard, wholeIn, charsIn, ahead, trimmed, goesOn, untilEnd, heardText}
 use Rattle.text.specs.Back.{Back}
 use Rattle.text.specs.declared.NumericValue.{NumericValue}
 use Rattle.text.specs.declared.NumericValue.the-variants.{Value}
@@ -136,9 +136,7 @@ goes-on : (b : ℕ) → charOk Alphanumeric b ≡ true → goesOn b ≡ true
 goes-on b ok =
     let h = and-true (between 1 127 b) (not (between 3 4 b)) ok in
     let low : 1 ≤ b = leb-true 1 b (and-true (leb 1 b) (leb b 127) (h .0) .0) in
-    let three : b ≡ 3 → ⊥ = λ e. true-false (rw e at (h .1)) refl in
-    let four : b ≡ 4 → ⊥ = λ e. true-false (rw e at (h .1)) refl in
-    rw (ne-eqb b 0 (λ e. omega arith), ne-eqb b 3 three, ne-eqb b 4 four)
+    rw (ne-eqb b 0 (λ e. omega arith)) (h .1)
 
 end-back : (s : List ℕ) (n : ℕ) → length s ≤ leading (charOk Alphanumeric) s → untilEnd (s ++ replicate n 0) ≡ s
 end-back [] zero h = refl

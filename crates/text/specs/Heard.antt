@@ -4,6 +4,7 @@ use mathlib.Core.List.{List, [], _∷_}
 use mathlib.Core.Bool.{Bool, cond, not, _||_}
 use lib.Dec.{eqb}
 use lib.ListN.{length, getD, take}
+use Rattle.base.specs.Hex.{between}
 use Rattle.base.specs.Leading.{leading}
 use Rattle.base.specs.Lists.{tab}
 use Rattle.text.specs.Numeric.{numericByte}
@@ -53,7 +54,7 @@ trimmed (b ∷ s) = ahead b (trimmed s)
 
 -- 0, 3 and 4 end an alphanumeric text
 abbrev pub ends : ℕ → Bool
-ends b = eqb b 0 || (eqb b 3 || eqb b 4)
+ends b = eqb b 0 || between 3 4 b
 
 abbrev pub goesOn : ℕ → Bool
 goesOn b = not (ends b)

@@ -1,7 +1,7 @@
 -- Table III: the numeric characters, both ways.
 use Prim.Native.Nat.{ℕ, _+_, _-_}
-use mathlib.Core.Bool.{Bool, true, false, cond}
-use lib.Dec.{leb, eqb}
+use mathlib.Core.Bool.{cond}
+use lib.Dec.{eqb}
 use Rattle.base.specs.Hex.{between}
 use Rattle.text.specs.declared.NumericValue.{NumericValue}
 use Rattle.text.specs.declared.NumericValue.the-variants.{Value, NotNumeric}

@@ -1,10 +1,14 @@
 // The characters of a page's text and its 20-bit message groups (document 01, "Texts").
 // A text is handed in as it stands in a job: pairs of upper-case hexadecimal digits.
 ghost use mathlib.Core.Path.{_≡_};
+ghost use Prim.Native.Nat.{_+_, _*_, _%_, _^_, _≤_};
+ghost use lib.ListN.{length, getD};
 ghost use Rattle.base.specs.Hex.{bytesOf};
 ghost use Rattle.base.specs.Leading.{leading};
 ghost use Rattle.text.specs.Numeric.{numericOf, numericByte};
-ghost use Rattle.text.specs.Coding.{isNumeric, charOk, endsInSpace, widthOf, fillOf, valueOf, bitOf, groupOf, groupsOf};
+ghost use Rattle.text.specs.Coding.{isNumeric, charOk, endsInSpace, widthOf, fillOf, valueOf, bitOf, turnedOf, groupOf, groupsOf};
+ghost use Rattle.text.specs.Heard.{charIn, charHeard, ends, heardText};
+ghost use Rattle.text.specs.declared.Coding.the-variants.{Numeric, Alphanumeric};
 
 // The two ways to write a text in bits.
 pub enum Coding {
@@ -170,4 +174,102 @@ pub fn groups(c: Coding, count: u16) -> usize
 {
     let w = width(c);
     ((count as usize) * w + 19) / 20
+}
+
+// The low n bits of a number, turned round.
+fn turned(number: u64, n: usize) -> u32
+    requires { ⌜ n ≤ 20 ⌝ }
+    ensures { λ r. ⌜ r ≡ turnedOf n number ⌝ }
+{
+    let mut rest = number;
+    let mut bits: u32 = 0;
+    let mut j = 0;
+    while j < n {
+        bits = bits * 2 + (rest % 2) as u32;
+        rest = rest / 2;
+        j += 1;
+    }
+    bits
+}
+
+// The 20 bits of the group at an index, or 0 behind the last.
+fn group_bits(groups: &[u32], g: usize) -> u64
+    ensures { λ r. ⌜ r ≡ getD (now (groups .entry)) g 0 % 2 ^ 20 ⌝ }
+{
+    if g < groups.len() {
+        (groups[g] % 1048576) as u64
+    } else {
+        0
+    }
+}
+
+// The value of the character at index i of groups. The window has the group where the character begins, and the next.
+fn value_in(c: Coding, groups: &[u32], i: usize) -> u8
+    ensures { λ r. ⌜ r ≡ charIn c (now (groups .entry)) i ⌝ }
+{
+    let w = width(c);
+    let from = w * (i % 20);
+    let g = w * (i / 20) + from / 20;
+    let window = group_bits(groups, g) * 1048576 + group_bits(groups, g + 1);
+    turned(window >> (40 - w - from % 20), w) as u8
+}
+
+// The character at index i of groups, as it is shown.
+pub fn heard_char(c: Coding, groups: &[u32], i: usize) -> u8
+    ensures { λ r. ⌜ r ≡ charHeard c (now (groups .entry)) i ⌝ }
+{
+    let v = value_in(c, groups, i);
+    match c {
+        Coding::Numeric => numeric_byte(v),
+        Coding::Alphanumeric => v,
+    }
+}
+
+// The length of a numeric text: back over the trailing spaces.
+fn numeric_length(groups: &[u32]) -> usize
+    ensures { λ r. ⌜ r ≡ length (heardText Numeric (now (groups .entry))) ⌝ }
+{
+    let mut n = 5 * groups.len();
+    while 0 < n {
+        if heard_char(Coding::Numeric, groups, n - 1) != b' ' {
+            return n;
+        }
+        n -= 1;
+    }
+    n
+}
+
+// Whether a character ends an alphanumeric text.
+fn ends_text(b: u8) -> bool
+    ensures { λ r. ⌜ r ≡ ends b ⌝ }
+{
+    match b {
+        0 | 3 | 4 => true,
+        _ => false,
+    }
+}
+
+// The length of an alphanumeric text: on to its end, or to the last whole character.
+fn alphanumeric_length(groups: &[u32]) -> usize
+    ensures { λ r. ⌜ r ≡ length (heardText Alphanumeric (now (groups .entry))) ⌝ }
+{
+    let n = groups.len() / 7 * 20 + groups.len() % 7 * 20 / 7;
+    let mut i = 0;
+    while i < n {
+        if ends_text(heard_char(Coding::Alphanumeric, groups, i)) {
+            return i;
+        }
+        i += 1;
+    }
+    i
+}
+
+// How many characters the text of groups has.
+pub fn heard_length(c: Coding, groups: &[u32]) -> usize
+    ensures { λ r. ⌜ r ≡ length (heardText c (now (groups .entry))) ⌝ }
+{
+    match c {
+        Coding::Numeric => numeric_length(groups),
+        Coding::Alphanumeric => alphanumeric_length(groups),
+    }
 }
