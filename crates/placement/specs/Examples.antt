@@ -1,0 +1,60 @@
+-- The worked slots of document 01, "Examples on both sides of a limit", as one table that the definitions compute.
+use mathlib.Core.Path.{_≡_}
+use mathlib.Core.Bool.{Bool, true, false, cond, _&&_}
+use mathlib.Core.List.{List, [], _∷_, _++_}
+use Prim.Native.Nat.{ℕ, zero, suc, _*_}
+use lib.Dec.{eqb}
+use Rattle.placement.specs.Placement.{Job, jobOf, isMessage, contentAt, slots, batches}
+
+-- a job's frames and numbers of message codewords, each page's address slot, the slots of message codewords, and the batches
+pub record Row : Type 0 where
+  pub frames : List ℕ
+  pub words : List ℕ
+  pub slots : List ℕ
+  pub running : List ℕ
+  pub batches : ℕ
+
+-- the slots before slot s that hold a message codeword
+unfoldable pub runningTo : Job → ℕ → List ℕ
+runningTo job zero = []
+runningTo job (suc s) = cond (isMessage (contentAt job s)) (runningTo job s ++ (s ∷ [])) (runningTo job s)
+
+-- two lists are the same
+unfoldable pub same : List ℕ → List ℕ → Bool
+same [] [] = true
+same [] (y ∷ ys) = false
+same (x ∷ xs) [] = false
+same (x ∷ xs) (y ∷ ys) = eqb x y && same xs ys
+
+-- the placement of a row's job is what the row says
+unfoldable pub holds : Row → Bool
+holds r =
+    same (slots (jobOf (r .frames) (r .words))) (r .slots)
+    && (same (runningTo (jobOf (r .frames) (r .words)) (16 * batches (jobOf (r .frames) (r .words)))) (r .running)
+    && eqb (batches (jobOf (r .frames) (r .words))) (r .batches))
+
+-- every row does
+unfoldable pub all : List Row → Bool
+all [] = true
+all (r ∷ rs) = holds r && all rs
+
+-- one tone in frame 7, and two; frame 7 and one message codeword; three tones in frame 0; frame 1 with 15 message codewords, then a
+-- tone in frame 0, then a tone in frame 1
+unfoldable pub table : List Row
+table =
+    record { frames = 7 ∷ []; words = 0 ∷ []; slots = 14 ∷ []; running = []; batches = 1 } ∷
+    record { frames = 7 ∷ 7 ∷ []; words = 0 ∷ 0 ∷ []; slots = 14 ∷ 15 ∷ []; running = []; batches = 1 } ∷
+    record { frames = 7 ∷ []; words = 1 ∷ []; slots = 14 ∷ []; running = 15 ∷ []; batches = 2 } ∷
+    record { frames = 0 ∷ 0 ∷ 0 ∷ []; words = 0 ∷ 0 ∷ 0 ∷ []; slots = 0 ∷ 1 ∷ 16 ∷ []; running = []; batches = 2 } ∷
+    record {
+      frames = 1 ∷ 0 ∷ 1 ∷ [];
+      words = 15 ∷ 0 ∷ 0 ∷ [];
+      slots = 2 ∷ 0 ∷ 18 ∷ [];
+      running = 3 ∷ 4 ∷ 5 ∷ 6 ∷ 7 ∷ 8 ∷ 9 ∷ 10 ∷ 11 ∷ 12 ∷ 13 ∷ 14 ∷ 15 ∷ 16 ∷ 17 ∷ [];
+      batches = 2;
+    } ∷
+    []
+
+-- `worked-slots` in proofs/Examples.antt proves it
+abbrev pub WorkedSlots : Type 0
+WorkedSlots = all table ≡ true

@@ -1,0 +1,134 @@
+// Placement of a job's pages in frames and batches: document 01, "Placement".
+ghost use mathlib.Core.Path.{_≡_};
+ghost use mathlib.Core.Bool.{not, _&&_};
+ghost use mathlib.Core.List.{map};
+ghost use Prim.Native.Nat.{pred, _*_, _%_, _≤_};
+ghost use lib.Dec.{eqb};
+ghost use lib.ListN.{length, replicate};
+ghost use Rattle.base.specs.Lists.{over};
+ghost use Rattle.placement.specs.Placement.{Sendable, jobOf, mayStart, stateAt, batches, slots};
+
+// What a free slot starts: a page, by its number in the job, or nothing.
+enum Start {
+    Page(usize),
+    Idle,
+}
+
+// Every mark to 0: no page is sent.
+fn clear(marks: &mut [u32])
+    ensures { λ r. ⌜ now (marks .exit) ≡ replicate (length (now (marks .entry))) 0 ⌝ }
+{
+    let n = marks.len();
+    let mut i = 0;
+    while i < n {
+        marks[i] = 0;
+        i += 1;
+    }
+}
+
+// Each mark, one more than a page's address slot, to the slot.
+fn unmark(marks: &mut [u32])
+    ensures { λ r. ⌜ now (marks .exit) ≡ map pred (now (marks .entry)) ⌝ }
+{
+    let n = marks.len();
+    let mut i = 0;
+    while i < n {
+        let mark = marks[i];
+        if 0 < mark {
+            marks[i] = mark - 1;
+        }
+        i += 1;
+    }
+}
+
+// Whether a page with this mark and this frame may start in this slot.
+fn may_start(mark: u32, frame: u8, slot: u32) -> bool
+    ensures { λ r. ⌜ r ≡ mayStart mark frame slot ⌝ }
+{
+    if mark != 0 {
+        return false;
+    }
+    let here = (slot % 16 / 2) as u8;
+    frame == here
+}
+
+// Whether a batch ends before this slot, the slot before held no message codeword, none is left, and all n pages are sent.
+fn at_end(slot: u32, message: bool, left: u32, sent: usize, n: usize) -> bool
+    ensures { λ r. ⌜ r ≡ (eqb (slot % 16) 0 && not message && eqb left 0 && eqb sent n) ⌝ }
+{
+    if slot % 16 != 0 {
+        return false;
+    }
+    if message {
+        return false;
+    }
+    if left != 0 {
+        return false;
+    }
+    sent == n
+}
+
+// The slots in turn, over marks that are all 0. A mark becomes one more than its page's address slot. Answers the number of batches.
+fn run(frames: &[u8], words: &[u32], marks: &mut [u32]) -> u32
+    requires { ⌜ Sendable (now frames) (now words) ⌝ }
+    requires { ⌜ now marks ≡ replicate (length (now frames)) 0 ⌝ }
+    ensures { λ r. ⌜ r ≡ batches (jobOf (now (frames .entry)) (now (words .entry))) ⌝ }
+    ensures { λ r. ⌜ now (marks .exit) ≡ stateAt (jobOf (now (frames .entry)) (now (words .entry))) (16 * r) .sent ⌝ }
+{
+    let n = frames.len();
+    let mut slot: u32 = 0;
+    let mut left: u32 = 0;
+    let mut sent: usize = 0;
+    loop {
+        let message = 0 < left;
+        if message {
+            left -= 1;
+        } else {
+            let mut i = 0;
+            let start = loop {
+                if i == n {
+                    break Start::Idle;
+                }
+                if may_start(marks[i], frames[i], slot) {
+                    break Start::Page(i);
+                }
+                i += 1;
+            };
+            if let Start::Page(page) = start {
+                marks[page] = slot + 1;
+                left = words[page];
+                sent += 1;
+            }
+        }
+        slot += 1;
+        if at_end(slot, message, left, sent, n) {
+            break;
+        }
+    }
+    slot / 16
+}
+
+// Each page's address slot, in job order, over a slice of just that length. Answers the number of batches.
+fn place_exact(frames: &[u8], words: &[u32], out: &mut [u32]) -> u32
+    requires { ⌜ Sendable (now frames) (now words) ⌝ }
+    requires { ⌜ length (now out) ≡ length (now frames) ⌝ }
+    ensures { λ r. ⌜ r ≡ batches (jobOf (now (frames .entry)) (now (words .entry))) ⌝ }
+    ensures { λ r. ⌜ now (out .exit) ≡ slots (jobOf (now (frames .entry)) (now (words .entry))) ⌝ }
+{
+    clear(out);
+    let batches = run(frames, words, out);
+    unmark(out);
+    batches
+}
+
+// Writes each page's address slot, in job order, and answers the number of batches. A page is given by its frame and by how many
+// message codewords it has. Only sending calls this: it has accepted the job and tested that `out` has room, and proves both.
+pub fn place(frames: &[u8], words: &[u32], out: &mut [u32]) -> u32
+    requires { ⌜ Sendable (now frames) (now words) ⌝ }
+    requires { ⌜ length (now frames) ≤ length (now out) ⌝ }
+    ensures { λ r. ⌜ r ≡ batches (jobOf (now (frames .entry)) (now (words .entry))) ⌝ }
+    ensures { λ r. ⌜ now (out .exit) ≡ over (now (out .entry)) (slots (jobOf (now (frames .entry)) (now (words .entry)))) ⌝ }
+{
+    let n = frames.len();
+    place_exact(frames, words, &mut out[..n])
+}
