@@ -18,7 +18,7 @@ use Rattle.base.proofs.HexLaws.{bytes-length}
 use Rattle.base.proofs.LinesLaws.{end-after, end-inside, cut}
 use Rattle.job.specs.Line.{allHex, isPairs, headFormed, tailFormed, wellFormed, lineOf, textPairs, textOf}
 use Rattle.job.specs.Pages.{Page, pageFrom, pagesFrom, pagesOf, noPage, pageAt}
-use Rattle.job.specs.Job.{after, judge, jobOf, tableOf, readingOf}
+use Rattle.job.specs.Job.{after, judge, jobOf, tableOf, answerWith, readingOf}
 use Rattle.job.specs.Accepted.{Sound, PageRead, AcceptedJob}
 use Rattle.job.specs.declared.Refusal.{Refusal}
 use Rattle.job.specs.declared.Refusal.the-variants.{Malformed, TooManyLines, EmptyJob}
@@ -165,7 +165,7 @@ module _ (s : List ℕ) (n : ℕ) (ok : jobOf s ≡ Accepted n) where
   sounds p h = all .each p (omega arith)
 
   page : (p : ℕ) → p < n → PageRead s p
-  unfolding readingOf tableOf
+  unfolding readingOf answerWith tableOf
   page p h =
       let w = place p h in
       let l = lineAt p (split s) in
@@ -185,3 +185,14 @@ module _ (s : List ℕ) (n : ℕ) (ok : jobOf s ≡ Accepted n) where
 
   pub accepted-job : AcceptedJob s n
   accepted-job = record { least = least; most = all .few; pages = counted; sound = sounds; page = page }
+
+-- ---- what reading a job answers is the job's answer
+
+answer-of : (a : JobAnswer) (ps : List Page) → answerWith a ps .answer ≡ a
+unfolding answerWith tableOf
+answer-of (Accepted n) ps = refl
+answer-of (Refused why place) ps = refl
+
+pub answered : (s : List ℕ) → readingOf s .answer ≡ jobOf s
+unfolding readingOf
+answered s = answer-of (jobOf s) (pagesOf s)

@@ -4,7 +4,6 @@ use mathlib.Core.Path.{_≡_, refl, sym, ap, _∙_}
 use mathlib.Core.List.{List, [], _∷_, map}
 use native.Mathlib.Numerals.{add-one}
 use native.Mathlib.Omega.{arith}
-use borrow.Author.Tests.{ne-eqb}
 use lib.ListN.{length, set, getD, take, drop, replicate, length-drop, length-map, List·getD-map}
 use Rattle.base.specs.Lines.{split, lineEnd}
 use Rattle.base.specs.Lists.{padded}
@@ -12,9 +11,10 @@ use Rattle.base.proofs.LinesLaws.{none-left}
 use Rattle.base.proofs.ListLaws.{filled, filled-turn, filled-over, over-zeros}
 use Rattle.job.specs.Line.{lineOf, identityOf, kindOf, textOf}
 use Rattle.job.specs.Pages.{Page, pageFrom, pagesFrom, pagesOf, noPage, identitiesOf, kindsOf, startsOf, countsOf}
-use Rattle.job.specs.Job.{judge, jobOf, tableOf, readingOf}
+use Rattle.job.specs.Job.{judge, tableOf, answerWith}
 use Rattle.job.specs.declared.Refusal.{Refusal}
 use Rattle.job.specs.declared.LineAnswer.the-variants.{Good}
+use Rattle.job.specs.declared.JobAnswer.{JobAnswer}
 use Rattle.job.specs.declared.JobAnswer.the-variants.{Accepted, Refused}
 use Rattle.job.specs.declared.Pages.{Pages}
 use Rattle.job.proofs.Laws.{judge-done, judge-line, first, pages-next}
@@ -35,7 +35,7 @@ pub record Keeping (job : List ℕ) (at k : ℕ) (identities kinds starts counts
   pub inside : at ≤ length job
   pub few : k ≤ 48
   pub passed : k ≤ length (pagesOf job)
-  pub answer : jobOf job ≡ judge k (split (drop at job))
+  pub answer : judge 0 (split job) ≡ judge k (split (drop at job))
   pub left : drop k (pagesOf job) ≡ pagesFrom at (split (drop at job))
   pub identities-are : identities ≡ filled zeros (identitiesOf (pagesOf job)) k
   pub kinds-are : kinds ≡ filled zeros (kindsOf (pagesOf job)) k
@@ -43,14 +43,14 @@ pub record Keeping (job : List ℕ) (at k : ℕ) (identities kinds starts counts
   pub counts-are : counts ≡ filled zeros (countsOf (pagesOf job)) k
 
 -- none yet
-pub keeping-none : (job : List ℕ) → (length job ≡ 0 → ⊥) → Keeping job 0 0 zeros zeros zeros zeros
-unfolding jobOf pagesOf
-keeping-none job h =
+pub keeping-none : (job : List ℕ) → Keeping job 0 0 zeros zeros zeros zeros
+unfolding pagesOf
+keeping-none job =
     record {
       inside = zero-le;
       few = zero-le;
       passed = zero-le;
-      answer = rw (ne-eqb (length job) 0 h);
+      answer = refl;
       left = refl;
       identities-are = refl;
       kinds-are = refl;
@@ -98,8 +98,8 @@ module _ (job : List ℕ) (at k : ℕ) {is ks ss cs : List ℕ} (so : Keeping jo
       let new = map field (pagesOf job) in
       e ∙ ap (filled zeros new) (all-passed h ∙ sym (length-map (pagesOf job) field)) ∙ filled-over zeros new ∙ over-zeros 48 new
 
-  pub keeping-all : length job ≤ at → _≡_ {A = Pages} (record { answer = Accepted k; identities = is; kinds = ks; starts = ss; counts = cs }) (readingOf job)
-  unfolding readingOf tableOf
+  pub keeping-all : length job ≤ at → _≡_ {A = Pages} (record { answer = Accepted k; identities = is; kinds = ks; starts = ss; counts = cs }) (answerWith (judge 0 (split job)) (pagesOf job))
+  unfolding answerWith tableOf
   keeping-all h =
       rw (
         so .answer ∙ judge-done job at k h,
@@ -110,6 +110,6 @@ module _ (job : List ℕ) (at k : ℕ) {is ks ss cs : List ℕ} (so : Keeping jo
       )
 
 -- a refused job
-pub reading-refused : (job : List ℕ) {why : Refusal} {place : ℕ} → jobOf job ≡ Refused why place → tableOf (Refused why place) [] ≡ readingOf job
-unfolding readingOf
-reading-refused job e = rw e
+pub answer-refused : (a : JobAnswer) (ps : List Page) {why : Refusal} {place : ℕ} → a ≡ Refused why place → tableOf (Refused why place) [] ≡ answerWith a ps
+unfolding answerWith
+answer-refused a ps e = rw e

@@ -8,15 +8,15 @@ use native.Mathlib.Omega.{arith}
 use lib.ListN.{length, take, drop, length-drop}
 use lib.Seq.{length-take-le}
 use lib.Dec.{leb}
-use borrow.Author.Tests.{le-leb, lt-leb, eq-eqb, ne-eqb, leb-true}
+use borrow.Author.Tests.{le-leb, lt-leb, ne-eqb, leb-true}
 use native.Mathlib.Nat.{eq-or-lt-of-le}
 use Rattle.base.specs.Lines.{split, lineEnd}
 use Rattle.base.proofs.Bools.{and-true}
 use Rattle.base.proofs.LinesLaws.{end-after, end-inside, none-left, cut, uncut}
 use Rattle.job.specs.Line.{headFormed, wellFormed, lineOf}
 use Rattle.job.specs.Pages.{pageFrom, pagesFrom}
-use Rattle.job.specs.Job.{after, judge, jobOf}
-use Rattle.job.specs.declared.Refusal.the-variants.{Malformed, TooManyLines, EmptyJob}
+use Rattle.job.specs.Job.{after, judge}
+use Rattle.job.specs.declared.Refusal.the-variants.{Malformed, TooManyLines}
 use Rattle.job.specs.declared.LineAnswer.{LineAnswer}
 use Rattle.job.specs.declared.JobAnswer.the-variants.{Accepted, Refused}
 
@@ -27,10 +27,6 @@ head-long l e = leb-true 8 (length l) (and-true (leb 8 (length l)) _ e .0)
 pub formed-long : (l : List ℕ) → wellFormed l ≡ true → 8 ≤ length l
 unfolding wellFormed
 formed-long l e = head-long l (and-true (headFormed l) _ e .0)
-
-pub job-empty : (job : List ℕ) → length job ≡ 0 → jobOf job ≡ Refused EmptyJob 0
-unfolding jobOf
-job-empty job e = rw (eq-eqb (length job) 0 e)
 
 -- The answer to what is left from the byte `at` on, behind k good lines.
 module _ (job : List ℕ) (at k : ℕ) where

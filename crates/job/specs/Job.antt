@@ -45,11 +45,11 @@ tableOf a ps =
       counts = padded 48 (countsOf ps);
     }
 
--- of a refused job no page is kept
-abbrev pub keptOf : JobAnswer → List Page → List Page
-keptOf (Accepted n) ps = ps
-keptOf (Refused why place) ps = []
+-- what is returned with an answer; of a refused job no page is kept
+unfoldable pub answerWith : JobAnswer → List Page → Pages
+answerWith (Accepted n) ps = tableOf (Accepted n) ps
+answerWith (Refused why place) ps = tableOf (Refused why place) []
 
 -- what reading a job returns
 unfoldable pub readingOf : List ℕ → Pages
-readingOf s = tableOf (jobOf s) (keptOf (jobOf s) (pagesOf s))
+readingOf s = answerWith (jobOf s) (pagesOf s)

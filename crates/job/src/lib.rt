@@ -4,9 +4,11 @@ ghost use mathlib.Core.List.{[]};
 ghost use Prim.Native.Nat.{_*_};
 ghost use lib.ListN.{take, drop};
 ghost use Rattle.base.specs.Hex.{bytesOf};
+ghost use Rattle.base.specs.Lines.{split};
 ghost use Rattle.job.specs.Refusal.{numberOf, jobNumber, jobPlace};
 ghost use Rattle.job.specs.Line.{isPairs, headFormed, tailFormed, wellFormed, isReserved, longestOf, codingOf, functionOf, tonePageOf, textPageOf, kindPageOf, pageOf, lineOf};
-ghost use Rattle.job.specs.Job.{tableOf, readingOf};
+ghost use Rattle.job.specs.Pages.{pagesOf};
+ghost use Rattle.job.specs.Job.{judge, tableOf, answerWith, readingOf};
 use text::Coding;
 
 // Why a job is declined, in the order of the table. A text's length is wrong in one of three ways.
@@ -26,12 +28,8 @@ pub enum Refusal {
 
 // What a page line says.
 pub enum LineAnswer {
-    // A page whose text has count characters.
-    Good {
-        identity: u32,
-        kind: u8,
-        count: usize,
-    },
+    // A page: its identity, its kind, and how many characters its text has.
+    Good(u32, u8, usize),
     Faulty(Refusal),
 }
 
@@ -194,11 +192,7 @@ fn judge_tone(identity: u32, kind: u8, text: &[u8]) -> LineAnswer
 {
     let n = text.len() / 2;
     if n == 0 {
-        LineAnswer::Good {
-            identity: identity,
-            kind: kind,
-            count: n,
-        }
+        LineAnswer::Good(identity, kind, n)
     } else {
         LineAnswer::Faulty(Refusal::ToneWithText)
     }
@@ -222,11 +216,7 @@ fn judge_text(identity: u32, kind: u8, text: &[u8]) -> LineAnswer
     if text::ends_in_space(c, text) {
         return LineAnswer::Faulty(Refusal::TrailingSpace);
     }
-    LineAnswer::Good {
-        identity: identity,
-        kind: kind,
-        count: n,
-    }
+    LineAnswer::Good(identity, kind, n)
 }
 
 // The page by its kind, or the lowest of numbers 4 to 7.
@@ -285,13 +275,10 @@ fn refused(why: Refusal, place: usize) -> Pages
     }
 }
 
-// The pages of a job, or the refusal of its first faulty line. The job is read once, line by line.
-pub fn read_job(job: &[u8]) -> Pages
-    ensures { λ r. ⌜ r ≡ readingOf (now (job .entry)) ⌝ }
+// The pages of lines, or the refusal of the first faulty one. They are read once, front to back.
+fn read_lines(job: &[u8]) -> Pages
+    ensures { λ r. ⌜ r ≡ answerWith (judge 0 (split (now (job .entry)))) (pagesOf (now (job .entry))) ⌝ }
 {
-    if job.len() == 0 {
-        return refused(Refusal::EmptyJob, 0);
-    }
     let mut identities = [0u32; 48];
     let mut kinds = [0u8; 48];
     let mut starts = [0usize; 48];
@@ -306,14 +293,9 @@ pub fn read_job(job: &[u8]) -> Pages
         if job.len() <= end {
             return refused(Refusal::Malformed, k + 1);
         }
-        let line = read_line(&job[at..end]);
-        match line {
+        match read_line(&job[at..end]) {
             LineAnswer::Faulty(why) => return refused(why, k + 1),
-            LineAnswer::Good {
-                identity,
-                kind,
-                count,
-            } => {
+            LineAnswer::Good(identity, kind, count) => {
                 identities[k] = identity;
                 kinds[k] = kind;
                 starts[k] = at + 9;
@@ -330,6 +312,16 @@ pub fn read_job(job: &[u8]) -> Pages
         starts: starts,
         counts: counts,
     }
+}
+
+// The pages of a job, or its refusal.
+pub fn read_job(job: &[u8]) -> Pages
+    ensures { λ r. ⌜ r ≡ readingOf (now (job .entry)) ⌝ }
+{
+    if job.len() == 0 {
+        return refused(Refusal::EmptyJob, 0);
+    }
+    read_lines(job)
 }
 
 // The pairs of a page's text, a part of the job that starts mid-line: count pairs from start on, or what is left of them.
