@@ -21,10 +21,10 @@ unfolding bitOf
 bit-small c bytes p = omega arith
 
 -- the bits of a group from the last
-abbrev back : Coding → List ℕ → ℕ → ℕ → ℕ
+abbrev pub back : Coding → List ℕ → ℕ → ℕ → ℕ
 back c bytes g b = bitOf c bytes (20 * g + (20 - (b + 1)))
 
-group-low : (c : Coding) (bytes : List ℕ) (g : ℕ) → groupOf c bytes g ≡ fromLow (back c bytes g) 20
+pub group-low : (c : Coding) (bytes : List ℕ) (g : ℕ) → groupOf c bytes g ≡ fromLow (back c bytes g) 20
 unfolding groupOf
 group-low c bytes g = bits-low (bitOf c bytes) (20 * g) 20 0 ∙ omega arith
 

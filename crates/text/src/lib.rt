@@ -6,7 +6,7 @@ ghost use lib.ListN.{length, getD};
 ghost use Rattle.base.specs.Hex.{bytesOf};
 ghost use Rattle.base.specs.Leading.{leading};
 ghost use Rattle.text.specs.Numeric.{numericOf, numericByte};
-ghost use Rattle.text.specs.Coding.{isNumeric, charOk, endsInSpace, widthOf, fillOf, valueOf, bitOf, turnedOf, groupOf, groupsOf};
+ghost use Rattle.text.specs.Coding.{isNumeric, charOk, endsInSpace, widthOf, fillOf, valueOf, turnedOf, groupOf, groupsOf};
 ghost use Rattle.text.specs.Heard.{charIn, charHeard, ends, heardText};
 ghost use Rattle.text.specs.declared.Coding.the-variants.{Numeric, Alphanumeric};
 
@@ -17,13 +17,13 @@ pub enum Coding {
 }
 
 // What a byte is as a numeric character: its four-bit value, or none.
-pub enum NumericValue {
+enum NumericValue {
     Value(u8),
     NotNumeric,
 }
 
 // Table III, from the byte to the value. The spare value has no character.
-pub fn numeric_value(b: u8) -> NumericValue
+fn numeric_value(b: u8) -> NumericValue
     ensures { λ r. ⌜ r ≡ numericOf b ⌝ }
 {
     match b {
@@ -38,7 +38,7 @@ pub fn numeric_value(b: u8) -> NumericValue
 }
 
 // Table III, from the value to the byte. The spare is shown as `*`.
-pub fn numeric_byte(v: u8) -> u8
+fn numeric_byte(v: u8) -> u8
     ensures { λ r. ⌜ r ≡ numericByte v ⌝ }
 {
     match v {
@@ -52,7 +52,7 @@ pub fn numeric_byte(v: u8) -> u8
     }
 }
 
-pub fn is_numeric(b: u8) -> bool
+fn is_numeric(b: u8) -> bool
     ensures { λ r. ⌜ r ≡ isNumeric b ⌝ }
 {
     let v = numeric_value(b);
@@ -63,7 +63,7 @@ pub fn is_numeric(b: u8) -> bool
 }
 
 // Whether a byte is among the characters of a coding.
-pub fn is_char(c: Coding, b: u8) -> bool
+fn is_char(c: Coding, b: u8) -> bool
     ensures { λ r. ⌜ r ≡ charOk c b ⌝ }
 {
     match c {
@@ -107,7 +107,7 @@ pub fn ends_in_space(c: Coding, text: &[u8]) -> bool
 }
 
 // Bits a character.
-pub fn width(c: Coding) -> usize
+fn width(c: Coding) -> usize
     ensures { λ r. ⌜ r ≡ widthOf c ⌝ }
 {
     match c {
@@ -117,63 +117,13 @@ pub fn width(c: Coding) -> usize
 }
 
 // The character that fills the last group.
-pub fn fill(c: Coding) -> u8
+fn fill(c: Coding) -> u8
     ensures { λ r. ⌜ r ≡ fillOf c ⌝ }
 {
     match c {
         Coding::Numeric => b' ',
         Coding::Alphanumeric => 0,
     }
-}
-
-// A character's bits as a number.
-pub fn char_value(c: Coding, b: u8) -> u8
-    ensures { λ r. ⌜ r ≡ valueOf c b ⌝ }
-{
-    match c {
-        Coding::Numeric => {
-            let v = numeric_value(b);
-            match v {
-                NumericValue::Value(n) => n,
-                NumericValue::NotNumeric => 0,
-            }
-        }
-        Coding::Alphanumeric => b,
-    }
-}
-
-// Bit p of a text, counted from its first.
-pub fn text_bit(c: Coding, text: &[u8], p: usize) -> u32
-    ensures { λ r. ⌜ r ≡ bitOf c (bytesOf (now (text .entry))) p ⌝ }
-{
-    let w = width(c);
-    let k = p / w;
-    let s = p % w;
-    let b = base::pair_byte(text, k, fill(c));
-    let v = char_value(c, b);
-    ((v >> s) % 2) as u32
-}
-
-// The 20 bits of a text's group at index g, the first bit on top.
-pub fn group(c: Coding, text: &[u8], g: u16) -> u32
-    ensures { λ r. ⌜ r ≡ groupOf c (bytesOf (now (text .entry))) g ⌝ }
-{
-    let from = 20 * (g as usize);
-    let mut bits: u32 = 0;
-    let mut j = 0;
-    while j < 20 {
-        bits = bits * 2 + text_bit(c, text, from + j);
-        j += 1;
-    }
-    bits
-}
-
-// How many groups so many characters take.
-pub fn groups(c: Coding, count: u16) -> usize
-    ensures { λ r. ⌜ r ≡ groupsOf c count ⌝ }
-{
-    let w = width(c);
-    ((count as usize) * w + 19) / 20
 }
 
 // The low n bits of a number, turned round.
@@ -190,6 +140,49 @@ fn turned(number: u64, n: usize) -> u32
         j += 1;
     }
     bits
+}
+
+// A character's bits as a number.
+fn char_value(c: Coding, b: u8) -> u8
+    ensures { λ r. ⌜ r ≡ valueOf c b % 2 ^ widthOf c ⌝ }
+{
+    match c {
+        Coding::Numeric => {
+            let v = numeric_value(b);
+            match v {
+                NumericValue::Value(n) => n % 16,
+                NumericValue::NotNumeric => 0,
+            }
+        }
+        Coding::Alphanumeric => b % 128,
+    }
+}
+
+// The 20 bits of a text's group at index g, the first bit on top. The window has the characters that they touch, the first lowest.
+pub fn group(c: Coding, text: &[u8], g: u16) -> u32
+    ensures { λ r. ⌜ r ≡ groupOf c (bytesOf (now (text .entry))) g ⌝ }
+{
+    let w = width(c);
+    let from = 20 * (g as usize);
+    let offset = from % w;
+    let mut k = from / w;
+    let mut window: u64 = 0;
+    let mut have = 0;
+    while have < offset + 20 {
+        let value = char_value(c, base::pair_byte(text, k, fill(c))) as u64;
+        window += value << have;
+        have += w;
+        k += 1;
+    }
+    turned(window >> offset, 20)
+}
+
+// How many groups so many characters take.
+pub fn groups(c: Coding, count: u16) -> usize
+    ensures { λ r. ⌜ r ≡ groupsOf c count ⌝ }
+{
+    let w = width(c);
+    ((count as usize) * w + 19) / 20
 }
 
 // The 20 bits of the group at an index, or 0 behind the last.

@@ -5,7 +5,7 @@ use native.Mathlib.Omega.{arith}
 use Prim.Native.Nat.{_-_}
 use denote.Ref.{now}
 use Rattle.text.specs.Heard.{charIn}
-use Rattle.text.proofs.Laws.{width-small}
+use Rattle.text.proofs.WidthLaws.{width-small}
 use Rattle.text.proofs.WindowLaws.{from-small, group-half, window-room, char-window, char-small}
 use Rattle.text.proofs.value_in.Statement.{statement}
 use Rattle.text.proofs.value_in.Tie as tie
