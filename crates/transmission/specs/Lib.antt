@@ -2,3 +2,4 @@ pub mod Sending
 pub mod Transmission
 pub mod Report
 pub mod Transmitted
+pub mod Writing

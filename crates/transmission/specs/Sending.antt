@@ -1,10 +1,12 @@
 -- A page as it is sent: the one record of it for the whole library. What is text becomes groups here, and what is transport
 -- (placement, codewords, steps, reading) knows nothing of lines and texts.
-use Prim.Native.Nat.{ℕ, _%_}
+use Prim.Native.Nat.{ℕ, _%_, _^_, _≤_, _<_}
+use mathlib.Core.Path.{_≡_}
+use mathlib.Core.Bool.{false}
 use mathlib.Core.List.{List, [], map}
 use lib.ListN.{length, getD}
 use Rattle.text.specs.Coding.{groupsIn}
-use Rattle.job.specs.Line.{codingOf, functionOf}
+use Rattle.job.specs.Line.{isReserved, codingOf, functionOf}
 use Rattle.job.specs.Pages.{Page, pagesOf}
 use Rattle.placement.specs.Placement as placement
 use Rattle.placement.specs.Placement.{Job}
@@ -24,8 +26,11 @@ unfoldable pub sendingsOf : List ℕ → List Sending
 sendingsOf s = map sendingOf (pagesOf s)
 
 -- the sending at an index; an empty one where there is none
+abbrev pub noSending : Sending
+noSending = record { identity = 0; function = 0; groups = [] }
+
 abbrev pub sendingAt : List Sending → ℕ → Sending
-sendingAt xs i = getD xs i (record { identity = 0; function = 0; groups = [] })
+sendingAt xs i = getD xs i noSending
 
 -- what the placement needs of them: the identity's low three bits are its frame, and each group is one message codeword
 abbrev pub framesOf : List Sending → List ℕ
@@ -36,3 +41,17 @@ countsOf xs = map (λ (x : Sending). length (x .groups)) xs
 
 abbrev pub placementOf : List Sending → Job
 placementOf xs = placement.jobOf (framesOf xs) (countsOf xs)
+
+-- what a sending of an accepted job has: 21 bits of identity, not reserved; two bits of function; at most 84 groups of 20 bits
+pub record Allowed (x : Sending) : Type 0 where
+  pub in-range : x .identity < 2 ^ 21
+  pub free : isReserved (x .identity) ≡ false
+  pub two-bits : x .function < 4
+  pub brief : length (x .groups) ≤ 84
+  pub small : (j : ℕ) → getD (x .groups) j 0 < 2 ^ 20
+
+-- the sendings of an accepted job: 1 to 48, each allowed. `accepted-sendings` in proofs/Sendings.antt proves it
+pub record AllAllowed (xs : List Sending) : Type 0 where
+  pub least : 1 ≤ length xs
+  pub most : length xs ≤ 48
+  pub each : (i : ℕ) → i < length xs → Allowed (sendingAt xs i)

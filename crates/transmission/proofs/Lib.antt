@@ -1,0 +1,3 @@
+pub mod Sendings
+pub mod TransmissionLaws
+pub mod Transmitted
