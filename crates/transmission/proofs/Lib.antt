@@ -1,3 +1,4 @@
 pub mod Sendings
 pub mod TransmissionLaws
 pub mod Transmitted
+pub mod Written
