@@ -47,7 +47,7 @@ module _ (job : Job) (w : ℕ → ℕ) (sent : List ℕ) (i : ℕ) (l : i < job 
 
 gone-le : (x w : ℕ) → gone x w ≤ w
 gone-le zero w = zero-le
-gone-le (suc t) w = native.Mathlib.Nat.le-refl w
+gone-le (suc t) w = omega arith
 
 pub total-le : (job : Job) (w : ℕ → ℕ) (sent : List ℕ) → total job w sent ≤ sum w (job .pages)
 unfolding total

@@ -118,5 +118,5 @@ runs-at job framed (suc s) h = go _ _ (slot job s) (runs-at job framed s) h
     go c st′ (runs l z) ih h = let r = ih (omega arith) in (r .0, r .1, r .2, omega arith, omega arith)
     go c st′ (starts k z b x _) ih h =
         let w : k < length (stateAt job s .sent) = omega (arith, good job framed s .marks) in
-        (s, b, getD-set-same (stateAt job s .sent) k (suc s) 0 w, refl, native.Mathlib.Nat.le-refl _)
+        (s, b, getD-set-same (stateAt job s .sent) k (suc s) 0 w, refl, omega arith)
     go c st′ (rests z none) ih h = absurd (omega arith)

@@ -12,7 +12,7 @@ use lib.ListN.{length, getD}
 use lib.Dec.{ltb, eqb}
 use borrow.Author.Tests.{eqb-true, eq-eqb, ne-eqb, lt-ltb, le-ltb}
 use Rattle.base.specs.Search.{least, sum}
-use Rattle.base.proofs.ListLaws.{tab-list}
+use Rattle.base.proofs.ListLaws.{tab-length, tab-at, tab-list}
 use Rattle.base.proofs.Bools.{true-false, and-true}
 use Rattle.base.proofs.SearchLaws.{Least, least-is, least-only, sum-cong, le-or-lt}
 use Rattle.placement.specs.Placement.{Job, jobOf, Framed, Sendable, slotBound, State, Content, address, message, isMessage, stateAt, contentAt, allOut, endsWith, batches, slotOf, slots}
@@ -207,7 +207,15 @@ module _ (job : Job) (framed : Framed job) where
       (λ h. omega arith)
       (le-or-lt j (job .words i))
 
-  -- the reported slots, from the marks after the last batch
+  -- the reported slots: how many, each, and all from the marks after the last batch
+  pub slots-length : length (slots job) ≡ job .pages
+  unfolding slots
+  slots-length = tab-length (slotOf job) (job .pages)
+
+  pub slots-at : (i : ℕ) → i < job .pages → getD (slots job) i 0 ≡ slotOf job i
+  unfolding slots
+  slots-at i l = tab-at (slotOf job) (job .pages) i 0 l
+
   pub slots-marks : slots job ≡ map pred (stateAt job (16 * batches job) .sent)
   unfolding slots slotOf
   slots-marks =

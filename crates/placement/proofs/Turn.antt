@@ -11,6 +11,7 @@ use Rattle.base.proofs.Bools.{true-false, and-true}
 use Rattle.base.proofs.SearchLaws.{Least, least-is}
 use Rattle.placement.specs.Placement.{Job, State, Content, idle, address, message, frameOf, mayStart, ready, first, rested, started, ran, out, outOf, after, next}
 
+-- two tests that both pass
 pub and-both : {a b : Bool} → a ≡ true → b ≡ true → a && b ≡ true
 and-both p q = rw (p, q)
 

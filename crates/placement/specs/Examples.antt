@@ -26,20 +26,20 @@ same [] (y ∷ ys) = false
 same (x ∷ xs) [] = false
 same (x ∷ xs) (y ∷ ys) = eqb x y && same xs ys
 
--- the placement of a row's job is what the row says
+-- the placement of the row's job is what the row says
 unfoldable pub holds : Row → Bool
 holds r =
     same (slots (jobOf (r .frames) (r .words))) (r .slots)
     && (same (runningTo (jobOf (r .frames) (r .words)) (16 * batches (jobOf (r .frames) (r .words)))) (r .running)
     && eqb (batches (jobOf (r .frames) (r .words))) (r .batches))
 
--- every row does
+-- every row is so
 unfoldable pub all : List Row → Bool
 all [] = true
 all (r ∷ rs) = holds r && all rs
 
--- one tone in frame 7, and two; frame 7 and one message codeword; three tones in frame 0; frame 1 with 15 message codewords, then a
--- tone in frame 0, then a tone in frame 1
+-- document 01's jobs in its order: one tone and two in frame 7; a page with one message codeword there; three tones in frame 0; a
+-- page with 15 message codewords in frame 1, and tones in frames 0 and 1 after it
 unfoldable pub table : List Row
 table =
     record { frames = 7 ∷ []; words = 0 ∷ []; slots = 14 ∷ []; running = []; batches = 1 } ∷
@@ -55,6 +55,6 @@ table =
     } ∷
     []
 
--- `worked-slots` in proofs/Examples.antt proves it
+-- the table is right: proved by `worked-slots` in proofs/Examples.antt
 abbrev pub WorkedSlots : Type 0
 WorkedSlots = all table ≡ true

@@ -8,11 +8,11 @@ use lib.Dec.{ltb}
 use Rattle.base.specs.Search.{sum}
 use Rattle.placement.specs.Placement.{Job, jobOf, latest, slotBound, Content, idle, address, message, frameOf, contentAt, endsWith, batches, slotOf}
 
--- the sum of w over the pages that go out before page i: with w 1 how many they are, with w their message codewords how many these are
+-- the sum of w over the pages that go out before page i
 unfoldable pub before : Job → (ℕ → ℕ) → ℕ → ℕ
 before job w i = sum (λ j. cond (ltb (slotOf job j) (slotOf job i)) (w j) 0) (job .pages)
 
--- page i goes out k-th, counted from 1: k - 1 pages have an earlier address
+-- page i goes out k-th, counted from 1: k - 1 pages go out before it
 abbrev pub Kth : Job → ℕ → ℕ → Type 0
 Kth job k i = before job (λ _. 1) i + 1 ≡ k
 
@@ -24,25 +24,25 @@ pub data Holds (job : Job) (s : ℕ) : Content → Type 0 where
 
 -- demand 3 over the placement
 pub record Placed (job : Job) : Type 0 where
-  -- the page that goes out k-th has its address no later than slot 15 k - 1 plus the message codewords of those before it
+  -- the k-th address keeps its bound, 15 k - 1 and the message codewords of the pages before it
   pub kth : (k i : ℕ) → i < job .pages → Kth job k i → slotOf job i ≤ latest k (before job (job .words) i)
-  -- for each k from 1 to n one page goes out k-th, and no other
+  -- for every k from 1 to n there is exactly one page that goes out k-th
   pub some : (k : ℕ) → 0 < k → k ≤ job .pages → (i : ℕ) × (i < job .pages) × Kth job k i
   pub one : (k i j : ℕ) → i < job .pages → j < job .pages → Kth job k i → Kth job k j → i ≡ j
-  -- at most (15 n + m) / 16 batches, rounded down, plus one
+  -- the batches keep theirs, one more than the sixteenth part of 15 n + m
   pub few : batches job ≤ slotBound job / 16 + 1
   -- the transmission can end with the last batch, and with no batch before it
   pub ended : endsWith job (batches job - 1) ≡ true
   pub soonest : (b : ℕ) → b + 1 < batches job → endsWith job b ≡ false
-  -- every page goes out, in its frame, inside the batches, with its message directly behind its address
+  -- every page goes out: its address in the reported slot, in its frame, and its message in the slots after it, all inside the batches
   pub sent : (i : ℕ) → i < job .pages → contentAt job (slotOf job i) ≡ address i
   pub framed : (i : ℕ) → i < job .pages → frameOf (slotOf job i) ≡ job .frame i
   pub inside : (i : ℕ) → i < job .pages → slotOf job i + job .words i < 16 * batches job
   pub behind : (i j : ℕ) → i < job .pages → j < job .words i → contentAt job (slotOf job i + 1 + j) ≡ message i j
-  -- and nothing else does
+  -- and nothing else goes out
   pub only : (s : ℕ) → Holds job s (contentAt job s)
 
--- what 48 pages and 4,032 message codewords take at most: 298 batches. A listing takes 300, and a sender state slots up to 4,800
+-- what a sendable job takes at most: 298 batches, so that they fit a listing's 300 and a sender state's slots up to 4,800
 pub record Limits (frames words : List ℕ) : Type 0 where
   pub most : batches (jobOf frames words) ≤ 298
   pub listed : batches (jobOf frames words) ≤ 300

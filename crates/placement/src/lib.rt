@@ -26,7 +26,7 @@ fn clear(marks: &mut [u32])
     }
 }
 
-// Each mark, one more than a page's address slot, to the slot.
+// Every mark, one more than a slot, to the slot.
 fn unmark(marks: &mut [u32])
     ensures { λ r. ⌜ now (marks .exit) ≡ map pred (now (marks .entry)) ⌝ }
 {
@@ -68,7 +68,7 @@ fn at_end(slot: u32, message: bool, left: u32, sent: usize, n: usize) -> bool
     sent == n
 }
 
-// The slots in turn, over marks that are all 0. A mark becomes one more than its page's address slot. Answers the number of batches.
+// Goes through the slots and answers the number of batches. A page's mark, 0 at first, becomes one more than its address slot.
 fn run(frames: &[u8], words: &[u32], marks: &mut [u32]) -> u32
     requires { ⌜ Sendable (now frames) (now words) ⌝ }
     requires { ⌜ now marks ≡ replicate (length (now frames)) 0 ⌝ }
@@ -108,7 +108,7 @@ fn run(frames: &[u8], words: &[u32], marks: &mut [u32]) -> u32
     slot / 16
 }
 
-// Each page's address slot, in job order, over a slice of just that length. Answers the number of batches.
+// Places a job as `place` does, where `out` has just one place a page.
 fn place_exact(frames: &[u8], words: &[u32], out: &mut [u32]) -> u32
     requires { ⌜ Sendable (now frames) (now words) ⌝ }
     requires { ⌜ length (now out) ≡ length (now frames) ⌝ }
@@ -121,14 +121,15 @@ fn place_exact(frames: &[u8], words: &[u32], out: &mut [u32]) -> u32
     batches
 }
 
-// Writes each page's address slot, in job order, and answers the number of batches. A page is given by its frame and by how many
-// message codewords it has. Only sending calls this: it has accepted the job and tested that `out` has room, and proves both.
+// Places a job, given by its pages' frames and numbers of message codewords: the slots of the addresses go to the front of `out`, in
+// the job's order, and the answer is the number of batches. Only the library's sending calls this. It has accepted the job and
+// tested the room before, and proves both.
 pub fn place(frames: &[u8], words: &[u32], out: &mut [u32]) -> u32
     requires { ⌜ Sendable (now frames) (now words) ⌝ }
     requires { ⌜ length (now frames) ≤ length (now out) ⌝ }
     ensures { λ r. ⌜ r ≡ batches (jobOf (now (frames .entry)) (now (words .entry))) ⌝ }
     ensures { λ r. ⌜ now (out .exit) ≡ over (now (out .entry)) (slots (jobOf (now (frames .entry)) (now (words .entry)))) ⌝ }
 {
-    let n = frames.len();
-    place_exact(frames, words, &mut out[..n])
+    let pages = frames.len();
+    place_exact(frames, words, &mut out[..pages])
 }

@@ -6,8 +6,8 @@ use Prim.Native.Nat.{ℕ}
 use lib.ListN.{drop}
 use lib.Seq.{length-take-le}
 use borrow.Author.Needs.{needs}
-use Rattle.base.proofs.ListLaws.{tab-length}
-use Rattle.placement.specs.Placement.{jobOf, slotOf, slots}
+use Rattle.placement.specs.Placement.{jobOf}
+use Rattle.placement.proofs.Placed.{slots-length}
 use Rattle.placement.proofs.place.Statement.{statement}
 use Rattle.placement.proofs.place.Tie as tie
 
@@ -28,13 +28,12 @@ same-length : tie.Need-same-length
 same-length c = search needs
 
 returns : tie.Need-returns
-unfolding slots
 returns c =
     let s = c .before .before .before .before .before .before .before in
     let job = jobOf (s .args .frames .now) (s .args .words .now) in
     let placed = c .before .before .place-exact in (
       placed .ensures .0,
-      ap₂ (λ (new : List ℕ) (n : ℕ). new ++ drop n (s .args .out .now)) (placed .ensures .1) (sym (tab-length (slotOf job) (job .pages))),
+      ap₂ (λ (new : List ℕ) (n : ℕ). new ++ drop n (s .args .out .now)) (placed .ensures .1) (sym (slots-length job (s .pre .0 .framed))),
     )
 
 pub place-spec : {M : Type 1} → statement M
