@@ -1,0 +1,118 @@
+-- The words of a listing's batches, by lines, are those of the text by index: each takes nine bytes. Assumes nothing.
+use Prim.Native.Nat.{ℕ, zero, suc, _+_, _-_, _*_, _/_, _%_, _≤_, _<_}
+use mathlib.Core.Path.{_≡_, refl, ap, ap₂, sym, _∙_}
+use mathlib.Core.List.{List, [], _∷_}
+use mathlib.Core.Bool.{Bool, true, false}
+use mathlib.Core.Logic.{⊎-elim}
+use native.Mathlib.Omega.{arith}
+use borrow.Author.Tests.{eqb-true, eqb-false, lt-ltb, le-ltb}
+use lib.Dec.{eqb}
+use lib.ListN.{length, take, drop, length-drop}
+use lib.Seq.{take-take, drop-drop, length-take-le}
+use Rattle.base.specs.Hex.{hexNumber}
+use Rattle.base.specs.Lines.{Lines, behind, line, split, lineAt}
+use Rattle.base.specs.Lists.{over, tab}
+use Rattle.base.proofs.Bools.{either}
+use Rattle.base.proofs.ListLaws.{tab-same}
+use Rattle.listing.specs.Listing.{hasOne, hasTwo, skip, isDue, batches, listingOf, lineFrom}
+use Rattle.listing.specs.Words.{lineWords, wordsIn, batchWords, wordsOf, wordAt, wordsFrom}
+use Rattle.listing.specs.Answers.{readingOf, wordsRead, afterRead}
+use Rattle.listing.specs.declared.Fault.{Fault}
+use Rattle.listing.specs.declared.Fault.the-variants.{ShortBuffer}
+use Rattle.listing.specs.declared.Listing.the-variants.{WellFormed, Declined}
+use Rattle.listing.specs.declared.Reading.{Reading}
+use Rattle.listing.specs.declared.Reading.the-variants.{Words, Unread}
+use Rattle.listing.proofs.FirstLine.{alone, pair, alone-line, pair-line, pair-inside, one-word, two-words, drop-take}
+use Rattle.listing.proofs.BatchLaws.{below-limit, line-formed, end-formed, batches-formed, listing-formed}
+
+line-parts : {l l' : List ℕ} {ls ls' : Lines} → line l ls ≡ line l' ls' → (l ≡ l') × (ls ≡ ls')
+line-parts e = (cc, cc)
+
+module _ (s : List ℕ) (k : ℕ) where
+  -- one word more of the text
+  pub words-more : (n : ℕ) → wordsFrom s k (suc n) ≡ wordAt s k ∷ wordsFrom s (k + 1) n
+  unfolding tab
+  words-more n =
+      let z : k + 0 ≡ k = omega arith in
+      ap₂ _∷_ (ap (wordAt s) z) (tab-same (λ i. wordAt s (k + suc i)) (λ i. wordAt s (k + 1 + i)) n (λ i h. let y : k + suc i ≡ k + 1 + i = omega arith in ap (wordAt s) y))
+
+  abbrev d : List ℕ
+  d = drop (9 * k) s
+
+  -- the words of a line at word k
+  one-here : (l : List ℕ) (ls : Lines) → split d ≡ line l ls → hasOne l ≡ true → (lineWords l ≡ wordAt s k ∷ []) × (split (drop (9 * (k + 1)) s) ≡ ls)
+  unfolding lineAt lineWords wordAt
+  one-here l ls e o =
+      let here : alone d ≡ true = sym (one-word d) ∙ (rw e o) in
+      let p = line-parts (sym (alone-line d here) ∙ e) in
+      let z : 9 * (k + 1) ≡ 9 * k + 9 = omega arith in
+      (rw (o, ← (p .0)), rw (z, ← (drop-drop 9 (9 * k) s)) (p .1))
+
+  two-here : (l : List ℕ) (ls : Lines) → split d ≡ line l ls → hasTwo l ≡ true → (lineWords l ≡ wordAt s k ∷ wordAt s (k + 1) ∷ []) × (split (drop (9 * (k + 2)) s) ≡ ls)
+  unfolding lineAt lineWords wordAt hasOne
+  two-here l ls e o =
+      let here : pair d ≡ true = sym (two-words d) ∙ (rw e o) in
+      let p = line-parts (sym (pair-line d here) ∙ e) in
+      let long : length (take 17 d) ≡ 17 = length-take-le 17 d (omega (arith, pair-inside d here)) in
+      let y : 9 * (k + 1) ≡ 9 * k + 9 = omega arith in
+      let z : 9 * (k + 2) ≡ 9 * k + 18 = omega arith in
+      (rw (← (p .0), long, take-take 8 17 d (omega arith), drop-take 9 8 d, y, ← (drop-drop 9 (9 * k) s)), rw (z, ← (drop-drop 18 (9 * k) s)) (p .1))
+
+-- how many words q lines behind the preamble have: two each, but one where a batch begins
+abbrev pub wordsBefore : ℕ → ℕ
+wordsBefore q = 2 * q - (q + 8) / 9
+
+module _ (s : List ℕ) (p b : ℕ) where
+  -- behind q lines
+  indexed : (ls : Lines) (q k n : ℕ) → split (drop (9 * k) s) ≡ ls → batches p q ls ≡ WellFormed p b → q ≤ 2700 → k ≡ 2 * p + wordsBefore q → k + n ≡ 2 * p + 17 * b
+      → wordsIn ls ≡ wordsFrom s k n
+  unfolding wordsIn isDue tab
+  indexed (behind t) q k n e f h here all =
+      let ends = end-formed p q p b t f in
+      let z : n ≡ 0 = omega arith in
+      rw z
+  indexed (line l ls) q k n e f h here all =
+      let g = line-formed p q p b l ls f in
+      let few : q + 1 ≤ 2700 = below-limit q h (g .1) in
+      let more = batches-formed p (q + 1) p b ls few (g .2) in
+      ⊎-elim
+      (λ (z : eqb (q % 9) 0 ≡ true).
+      let y = eqb-true (q % 9) 0 z in
+      let inner : (q + 8) / 9 ≡ q / 9 = omega arith in
+      let next : (q + 1 + 8) / 9 ≡ q / 9 + 1 = omega arith in
+      let one = one-here s k l ls e (rw z at (g .0)) in
+      let size : n ≡ suc (n - 1) = omega arith in
+      let rest = indexed ls (q + 1) (k + 1) (n - 1) (one .1) (g .2) few (omega arith) (omega arith) in
+      rw (one .0, size, words-more s k (n - 1)) (ap (λ (ws : List ℕ). wordAt s k ∷ ws) rest))
+      (λ (z : eqb (q % 9) 0 ≡ false).
+      let y = eqb-false (q % 9) 0 z in
+      let inner : (q + 8) / 9 ≡ q / 9 + 1 = omega arith in
+      let last : q / 9 + 1 ≤ b = omega arith in
+      let two = two-here s k l ls e (rw z at (g .0)) in
+      let size : n ≡ suc (suc (n - 2)) = omega arith in
+      let w : k + 1 + 1 ≡ k + 2 = omega arith in
+      let rest = indexed ls (q + 1) (k + 2) (n - 2) (two .1) (g .2) few (omega arith) (omega arith) in
+      rw (two .0, size, words-more s k (suc (n - 2)), words-more s (k + 1) (n - 2), w) (ap (λ (ws : List ℕ). wordAt s k ∷ wordAt s (k + 1) ∷ ws) rest))
+      (either (eqb (q % 9) 0))
+
+  -- the batches' words stand behind the two of each preamble line
+  pub words-indexed : listingOf s ≡ WellFormed p b → wordsOf s ≡ wordsFrom s (2 * p) (17 * b)
+  words-indexed e =
+      let f = listing-formed s p b e in
+      let z : 9 * (2 * p) ≡ 18 * p = omega arith in
+      rw (e, f .2) (indexed (split (drop (18 * p) s)) 0 (2 * p) (17 * b) (rw z) (f .3) (omega arith) (omega arith) refl)
+
+-- ---- the answers of reading
+
+module _ (s old : List ℕ) where
+  pub read-declined : (why : Fault) → listingOf s ≡ Declined why → (Unread why ≡ readingOf s (length old)) × (old ≡ afterRead s old)
+  read-declined why e = (rw e, rw e)
+
+  module _ (p b : ℕ) (e : listingOf s ≡ WellFormed p b) where
+    pub read-short : length old < 17 * b → (Unread ShortBuffer ≡ readingOf s (length old)) × (old ≡ afterRead s old)
+    read-short h = let short = lt-ltb (length old) (17 * b) h in (rw (e, short), rw (e, short))
+
+    pub read-words : 17 * b ≤ length old → (Words (17 * b) ≡ readingOf s (length old)) × (over old (wordsFrom s (2 * p) (17 * b)) ≡ afterRead s old)
+    read-words h =
+        let answer : Words (17 * b) ≡ readingOf s (length old) = rw (e, le-ltb (length old) (17 * b) h) in
+        (answer, ap (over old) (sym (words-indexed s p b e)) ∙ ap (λ (a : Reading). over old (wordsRead s a)) answer)

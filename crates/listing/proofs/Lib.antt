@@ -1,0 +1,5 @@
+pub mod FirstLine
+pub mod BatchLaws
+pub mod Indexed
+pub mod TextLaws
+pub mod Back

@@ -1,0 +1,77 @@
+-- `listing::preamble_lines` meets its contract: what is counted, and what there is from there on, make the whole. Assumes nothing.
+use Prim.Native.Nat.{_+_, _-_, _*_, _≤_}
+use mathlib.Core.Path.{_≡_, sym, _∙_}
+use native.Mathlib.Omega.{arith}
+use borrow.Author.Needs.{needs}
+use borrow.Author.Tests.{not-true, not-false}
+use denote.Ref.{now}
+use lib.ListN.{drop}
+use Rattle.base.specs.Lines.{split}
+use Rattle.listing.specs.Listing.{framesIn, preambleOf}
+use Rattle.listing.proofs.BatchLaws.{frames-skip, frames-stop, frames-none, preamble-start, preamble-more}
+use Rattle.listing.proofs.preamble_lines.Statement.{statement}
+use Rattle.listing.proofs.preamble_lines.Tie as tie
+use Rattle.listing.proofs.preamble_lines.Reads as reads
+use Rattle.listing.proofs.preamble_lines.Lts as lts
+use Rattle.listing.proofs.has_two.Reads as has-two-reads
+
+abbrev Inv-loop : tie.InvT-loop
+Inv-loop s p₀ p = (p ≤ 36) × (preambleOf (split s) ≡ p + framesIn (36 - p) (split (drop (18 * p) s)))
+
+abbrev μ-loop : tie.MeasureT-loop
+μ-loop s p₀ p = 36 - p
+
+loop-holds : tie.Need-loop-holds Inv-loop μ-loop
+loop-holds c = (omega arith, preamble-start (c .before .args .s .now))
+
+mul-has-two : tie.Need-mul-has-two Inv-loop μ-loop
+mul-has-two c = search needs
+
+has-two-requires : tie.Need-has-two-requires Inv-loop μ-loop
+has-two-requires c κs =
+    let l = c .before in
+    let s = now (l .before .before .args .s) in
+    frames-skip (l .loop .p) 36 s (omega arith) .1
+
+returns : tie.Need-returns Inv-loop μ-loop
+returns c =
+    let l = c .before .before .before in
+    let s = now (l .before .before .args .s) in
+    let p = l .loop .p in
+    omega (arith, frames-stop (36 - p) (split (drop (18 * p) s)) (sym (c .before .has-two .ensures) ∙ not-true _ (c .if1 .taken)))
+
+add-p : tie.Need-add-p Inv-loop μ-loop
+add-p c = search needs
+
+loop-less : tie.Need-loop-less Inv-loop μ-loop
+loop-less c = search needs
+
+loop-again : tie.Need-loop-again Inv-loop μ-loop
+loop-again c =
+    let l = c .before .before .before in
+    let s = now (l .before .before .args .s) in
+    let p = l .loop .p in
+    (omega arith, omega (arith, preamble-more s p (omega arith) (sym (c .before .has-two .ensures) ∙ not-false _ (c .if1 .left))))
+
+returns-2 : tie.Need-returns-2 Inv-loop μ-loop
+returns-2 c =
+    let l = c .before in
+    let s = now (l .before .before .args .s) in
+    let p = l .loop .p in
+    let z : 36 - p ≡ 0 = omega arith in
+    omega (arith, frames-none (36 - p) (split (drop (18 * p) s)) z)
+
+pub preamble-lines-spec : {M : Type 1} → statement M
+preamble-lines-spec =
+    tie.close
+    (tie.spec
+    Inv-loop
+    μ-loop
+    loop-holds
+    mul-has-two
+    has-two-requires
+    returns
+    add-p
+    loop-less
+    loop-again
+    returns-2)

@@ -1,0 +1,5 @@
+pub mod Text
+pub mod Listing
+pub mod Words
+pub mod Answers
+pub mod ReadBack

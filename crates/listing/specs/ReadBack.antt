@@ -1,0 +1,34 @@
+-- What is written is read back: the listing of a transmission of 1 to 300 batches has its words.
+use Prim.Native.Nat.{ℕ, _+_, _*_, _^_, _≤_, _<_}
+use mathlib.Core.List.{List}
+use mathlib.Core.Path.{_≡_}
+use lib.ListN.{length, getD, take, drop}
+use Rattle.base.specs.Lists.{over}
+use Rattle.listing.specs.Text.{textOf}
+use Rattle.listing.specs.Listing.{listingOf}
+use Rattle.listing.specs.Words.{wordsOf, wordAt}
+use Rattle.listing.specs.Answers.{readingOf, afterRead, writingOf, afterWrite}
+use Rattle.listing.specs.declared.Listing.the-variants.{WellFormed}
+use Rattle.listing.specs.declared.Reading.the-variants.{Words}
+use Rattle.listing.specs.declared.Writing.the-variants.{Bytes}
+
+-- 18 words of preamble and 17 a batch, each below 2^32, whatever they are
+pub record OfBatches (words : List ℕ) (b : ℕ) : Type 0 where
+  pub size : length words ≡ 18 + 17 * b
+  pub some : 1 ≤ b
+  pub few : b ≤ 300
+  pub small : (k : ℕ) → getD words k 0 < 2 ^ 32
+
+pub record ReadBack (words : List ℕ) (b : ℕ) : Type 0 where
+  -- writing into a slice with room answers how many bytes the text has, and the slice then begins with them
+  pub writing : (old : List ℕ) → 9 * length words ≤ length old
+      → (writingOf words (length old) ≡ Bytes (9 * length words)) × (take (9 * length words) (afterWrite words old) ≡ textOf words)
+  -- the text is a listing of nine preamble lines and b batches
+  pub form : listingOf (textOf words) ≡ WellFormed 9 b
+  -- the words of its batches are those behind the preamble
+  pub batches : wordsOf (textOf words) ≡ drop 18 words
+  -- reading it into a slice with room answers how many they are and writes them
+  pub reading : (old : List ℕ) → 17 * b ≤ length old
+      → (readingOf (textOf words) (length old) ≡ Words (17 * b)) × (afterRead (textOf words) old ≡ over old (drop 18 words))
+  -- each word stands at its place
+  pub each : (k : ℕ) → wordAt (textOf words) k ≡ getD words k 0
