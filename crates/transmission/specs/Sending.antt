@@ -17,9 +17,13 @@ pub record Sending : Type 0 where
   pub function : ℕ
   pub groups : List ℕ
 
+-- what an identity, a kind and the bytes of a text are sent as
+abbrev pub sendingFrom : ℕ → ℕ → List ℕ → Sending
+sendingFrom identity kind bytes = record { identity = identity; function = functionOf kind; groups = groupsIn (codingOf kind) bytes }
+
 -- a page as it is sent
 abbrev pub sendingOf : Page → Sending
-sendingOf p = record { identity = p .identity; function = functionOf (p .kind); groups = groupsIn (codingOf (p .kind)) (p .text) }
+sendingOf p = sendingFrom (p .identity) (p .kind) (p .text)
 
 -- the sendings of a job, in job order
 unfoldable pub sendingsOf : List ℕ → List Sending

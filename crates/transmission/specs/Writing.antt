@@ -1,6 +1,7 @@
 -- How sending lays a transmission down: preamble, sync and idle first, then each page's codewords from its slot on. That all of them
 -- make the transmission is `written` in proofs/Written.antt.
-use Prim.Native.Nat.{ℕ, zero, suc, _+_, _-_, _%_}
+use Prim.Native.Nat.{ℕ, zero, suc, _+_, _-_, _%_, _<_}
+use mathlib.Core.Path.{_≡_}
 use mathlib.Core.Bool.{cond}
 use mathlib.Core.List.{List}
 use lib.ListN.{length, getD, set}
@@ -9,7 +10,7 @@ use Rattle.codeword.specs.Code as code
 use Rattle.codeword.specs.Code.{codeword, addressBits, messageBits}
 use Rattle.placement.specs.Placement.{slotOf}
 use Rattle.transmission.specs.Sending.{Sending, sendingAt, placementOf}
-use Rattle.transmission.specs.Transmission.{preamble}
+use Rattle.transmission.specs.Transmission.{preamble, wordCount}
 use Rattle.transmission.specs.Transmitted.{slotIndex}
 
 -- word k of a transmission whose slots are all idle
@@ -34,3 +35,9 @@ withSending x s words = begun x s (suc (length (x .groups))) words
 unfoldable pub withSendings : List Sending → ℕ → List ℕ → List ℕ
 withSendings xs zero words = words
 withSendings xs (suc n) words = withSending (sendingAt xs n) (slotOf (placementOf xs) n) (withSendings xs n words)
+
+-- what is known before the first word is written: each sending's number of groups and its slot, and room for just the transmission
+pub record Planned (xs : List Sending) (groups places : List ℕ) (room : ℕ) : Type 0 where
+  pub counted : (i : ℕ) → i < length xs → getD groups i 0 ≡ length (sendingAt xs i .groups)
+  pub placed : (i : ℕ) → i < length xs → getD places i 0 ≡ slotOf (placementOf xs) i
+  pub exact : room ≡ wordCount (placementOf xs)

@@ -1,4 +1,20 @@
 // A job's words: sending a job into lent slices (document 01, "Placement").
+ghost use mathlib.Core.Path.{_≡_};
+ghost use Prim.Native.Nat.{ℕ, _+_, _%_, _≤_, _<_};
+ghost use lib.ListN.{length, getD};
+ghost use Rattle.base.specs.Hex.{bytesOf};
+ghost use Rattle.base.specs.Lists.{over, tab};
+ghost use Rattle.text.specs.Coding.{groupsOf};
+ghost use Rattle.job.specs.Line.{codingOf};
+ghost use Rattle.job.specs.Job.{jobOf, readingOf};
+ghost use Rattle.transmission.specs.Sending.{sendingFrom, sendingsOf};
+ghost use Rattle.transmission.specs.Transmission.{transmissionOf};
+ghost use Rattle.transmission.specs.Transmitted.{slotIndex};
+ghost use Rattle.transmission.specs.Report.{sentInto, reportOf, wordsSent, slotsSent, numberOf, placeOf};
+ghost use Rattle.transmission.specs.Writing.{Planned, blankAt, withSending};
+use codeword::Codeword;
+use job::JobAnswer;
+use job::Pages;
 use job::Refusal;
 
 // What sending a job answers.
@@ -9,4 +25,203 @@ pub enum Report {
     Declined { why: Refusal, place: usize },
     // A lent slice is shorter than the answer: number 10.
     NoRoom,
+}
+
+// The number of a report in the table; 0 where the job is sent.
+pub fn number(r: Report) -> u32
+    ensures { λ n. ⌜ n ≡ numberOf r ⌝ }
+{
+    match r {
+        Report::Sent {
+            batches: _,
+            words: _,
+        } => 0,
+        Report::Declined { why, place } => job::number(JobAnswer::Refused {
+            why: why,
+            place: place,
+        }),
+        Report::NoRoom => 10,
+    }
+}
+
+// The place of a report; 0 where the job is sent.
+pub fn place(r: Report) -> usize
+    ensures { λ n. ⌜ n ≡ placeOf r ⌝ }
+{
+    match r {
+        Report::Sent {
+            batches: _,
+            words: _,
+        } => 0,
+        Report::Declined { why: _, place } => place,
+        Report::NoRoom => 0,
+    }
+}
+
+// Each identity's frame: its low three bits.
+fn frames_of(identities: &[u32; 48]) -> [u8; 48]
+    ensures { λ r. ⌜ r ≡ tab (λ i. getD (now (identities .entry)) i 0 % 8) 48 ⌝ }
+{
+    let mut frames = [0u8; 48];
+    let mut i = 0;
+    while i < 48 {
+        frames[i] = (identities[i] % 8) as u8;
+        i += 1;
+    }
+    frames
+}
+
+// How many groups each text takes, by its kind and its number of characters.
+fn groups_of<'a>(kinds: &'a [u8; 48], counts: &'a [usize; 48]) -> [u32; 48]
+    requires { ⌜ ((i : ℕ) → getD (now counts) i 0 ≤ 240) ⌝ }
+    ensures { λ r. ⌜ r ≡ tab (λ i. groupsOf (codingOf (getD (now (kinds .entry)) i 0)) (getD (now (counts .entry)) i 0)) 48 ⌝ }
+{
+    let mut groups = [0u32; 48];
+    let mut i = 0;
+    while i < 48 {
+        let count = counts[i] as u16;
+        groups[i] = text::groups(job::coding(kinds[i]), count) as u32;
+        i += 1;
+    }
+    groups
+}
+
+// Word k of a transmission whose slots are all idle.
+fn blank_word(k: usize) -> u32
+    ensures { λ r. ⌜ r ≡ blankAt k ⌝ }
+{
+    if k < 18 {
+        return 0xAAAA_AAAA;
+    }
+    if (k - 18) % 17 == 0 {
+        Codeword::SYNC.word()
+    } else {
+        Codeword::IDLE.word()
+    }
+}
+
+// Preamble, sync and idle over a whole slice.
+fn write_blank(words: &mut [u32])
+    ensures { λ _. ⌜ now (words .exit) ≡ tab blankAt (length (now (words .entry))) ⌝ }
+{
+    let count = words.len();
+    let mut k = 0;
+    while k < count {
+        words[k] = blank_word(k);
+        k += 1;
+    }
+}
+
+// The index of a slot's word.
+fn slot_index(slot: u32) -> usize
+    ensures { λ r. ⌜ r ≡ slotIndex slot ⌝ }
+{
+    let s = slot as usize;
+    19 + 17 * (s / 16) + s % 16
+}
+
+// A page's address codeword at its slot, and its message codewords directly behind.
+fn write_page(identity: u32, kind: u8, text: &[u8], groups: u32, slot: u32, words: &mut [u32])
+    requires { ⌜ groups ≡ length (sendingFrom identity kind (bytesOf (now text)) .groups) ⌝ }
+    requires { ⌜ (groups ≤ 84) × (slot < 4800) ⌝ }
+    requires { ⌜ slotIndex (slot + groups) < length (now words) ⌝ }
+    ensures { λ _. ⌜ now (words .exit) ≡ withSending (sendingFrom identity kind (bytesOf (now (text .entry)))) slot (now (words .entry)) ⌝ }
+{
+    let coding = job::coding(kind);
+    words[slot_index(slot)] = Codeword::address(identity, job::function(kind)).word();
+    let mut j = 0u32;
+    while j < groups {
+        let bits = text::group(coding, text, j as u16);
+        words[slot_index(slot + 1 + j)] = Codeword::message(bits).word();
+        j += 1;
+    }
+}
+
+// The transmission of a job's n pages over a slice of just its length, by each page's number of groups and its slot.
+fn write_pages(
+    job: &[u8],
+    pages: Pages,
+    n: usize,
+    groups: &[u32; 48],
+    places: &[u32; 48],
+    words: &mut [u32],
+)
+    requires { ⌜ pages ≡ readingOf (now job) ⌝ }
+    requires { ⌜ jobOf (now job) ≡ JobAnswer.Accepted n ⌝ }
+    requires { ⌜ Planned (sendingsOf (now job)) (now groups) (now places) (length (now words)) ⌝ }
+    ensures { λ _. ⌜ now (words .exit) ≡ transmissionOf (sendingsOf (now (job .entry))) ⌝ }
+{
+    write_blank(words);
+    let mut i = 0;
+    while i < n {
+        let text = job::page_text(job, pages.starts[i], pages.counts[i]);
+        write_page(
+            pages.identities[i],
+            pages.kinds[i],
+            text,
+            groups[i],
+            places[i],
+            words,
+        );
+        i += 1;
+    }
+}
+
+// Numbers over the front of a slice that has room for them.
+fn copy_front(from: &[u32], to: &mut [u32])
+    requires { ⌜ length (now from) ≤ length (now to) ⌝ }
+    ensures { λ _. ⌜ now (to .exit) ≡ over (now (to .entry)) (now (from .entry)) ⌝ }
+{
+    let n = from.len();
+    let mut i = 0;
+    while i < n {
+        to[i] = from[i];
+        i += 1;
+    }
+}
+
+// The n pages of an accepted job into the two slices, or number 10. Nothing is written before both have room.
+fn send_pages(job: &[u8], pages: Pages, n: usize, words: &mut [u32], slots: &mut [u32]) -> Report
+    requires { ⌜ pages ≡ readingOf (now job) ⌝ }
+    requires { ⌜ jobOf (now job) ≡ JobAnswer.Accepted n ⌝ }
+    ensures { λ r. ⌜ r ≡ sentInto (sendingsOf (now (job .entry))) (length (now (words .entry))) (length (now (slots .entry))) ⌝ }
+    ensures { λ r. ⌜ now (words .exit) ≡ over (now (words .entry)) (wordsSent r (sendingsOf (now (job .entry)))) ⌝ }
+    ensures { λ r. ⌜ now (slots .exit) ≡ over (now (slots .entry)) (slotsSent r (sendingsOf (now (job .entry)))) ⌝ }
+{
+    let frames = frames_of(&pages.identities);
+    let groups = groups_of(&pages.kinds, &pages.counts);
+    let mut places = [0u32; 48];
+    let batches = placement::place(&frames[..n], &groups[..n], &mut places);
+    let count = 18 + 17 * batches;
+    let room = count as usize;
+    if words.len() < room {
+        return Report::NoRoom;
+    }
+    if slots.len() < n {
+        return Report::NoRoom;
+    }
+    write_pages(job, pages, n, &groups, &places, &mut words[..room]);
+    copy_front(&places[..n], slots);
+    Report::Sent {
+        batches: batches,
+        words: count,
+    }
+}
+
+// Sends a job: writes its transmission over the front of the words and each page's address slot, in job order, over the front of
+// the slots, and reports the number of batches and of words. A declined job writes nothing.
+pub fn send(job: &[u8], words: &mut [u32], slots: &mut [u32]) -> Report
+    ensures { λ r. ⌜ r ≡ reportOf (now (job .entry)) (length (now (words .entry))) (length (now (slots .entry))) ⌝ }
+    ensures { λ r. ⌜ now (words .exit) ≡ over (now (words .entry)) (wordsSent r (sendingsOf (now (job .entry)))) ⌝ }
+    ensures { λ r. ⌜ now (slots .exit) ≡ over (now (slots .entry)) (slotsSent r (sendingsOf (now (job .entry)))) ⌝ }
+{
+    let pages = job::read_job(job);
+    let answer = pages.answer;
+    match answer {
+        JobAnswer::Refused { why, place } => Report::Declined {
+            why: why,
+            place: place,
+        },
+        JobAnswer::Accepted(n) => send_pages(job, pages, n, words, slots),
+    }
 }
