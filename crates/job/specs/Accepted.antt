@@ -16,10 +16,12 @@ use Rattle.job.specs.declared.LineAnswer.the-variants.{Good}
 -- a line that none of numbers 1 to 7 declines
 pub record Sound (l : List ℕ) : Type 0 where
   pub good : lineOf l ≡ Good (identityOf l) (kindOf l) (length (textOf l))
+  -- the form, the identity, the kind
   pub formed : wellFormed l ≡ true
   pub in-range : identityOf l ≤ 0x1FFFFF
   pub free : isReserved (identityOf l) ≡ false
   pub known : kindOf l ≤ 5
+  -- how many characters the text has, each of them the kind's, and no space at the end of a numeric one
   pub tone : kindOf l ≤ 3 → length (textOf l) ≡ 0
   pub some : 4 ≤ kindOf l → 1 ≤ length (textOf l)
   pub most : length (textOf l) ≤ longestOf (kindOf l)
@@ -29,14 +31,17 @@ pub record Sound (l : List ℕ) : Type 0 where
   pub function : functionOf (kindOf l) < 4
   pub brief : groupsOf (codingOf (kindOf l)) (length (textOf l)) ≤ 84
 
--- the page at index p: what its line says; its text stands in the job where `start` says; and what reading the job keeps of it
+-- the page at index p of a job
 pub record PageRead (s : List ℕ) (p : ℕ) : Type 0 where
+  -- it is what its line says
   pub identity-is : pageAt s p .identity ≡ identityOf (lineAt p (split s))
   pub kind-is : pageAt s p .kind ≡ kindOf (lineAt p (split s))
   pub text-is : pageAt s p .text ≡ textOf (lineAt p (split s))
+  -- its text stands in the job, as pairs, from `start` on
   pub inside : pageAt s p .start + 2 * length (pageAt s p .text) ≤ length s
   pub pairs : take (2 * length (pageAt s p .text)) (drop (pageAt s p .start) s) ≡ textPairs (lineAt p (split s))
   pub bytes : bytesOf (take (2 * length (pageAt s p .text)) (drop (pageAt s p .start) s)) ≡ pageAt s p .text
+  -- what reading the job keeps of it
   pub kept-identity : getD (readingOf s .identities) p 0 ≡ pageAt s p .identity
   pub kept-kind : getD (readingOf s .kinds) p 0 ≡ pageAt s p .kind
   pub kept-start : getD (readingOf s .starts) p 0 ≡ pageAt s p .start

@@ -25,10 +25,11 @@ pagesFrom at (line l ls) = pageFrom at l ∷ pagesFrom (at + length l + 1) ls
 unfoldable pub pagesOf : List ℕ → List Page
 pagesOf s = pagesFrom 0 (split s)
 
--- the page at index p of a job; an empty one where there is none
+-- what stands for a page where there is none
 abbrev pub noPage : Page
 noPage = record { identity = 0; kind = 0; start = 0; text = [] }
 
+-- the page at index p of a job
 abbrev pub pageAt : List ℕ → ℕ → Page
 pageAt s p = getD (pagesOf s) p noPage
 
