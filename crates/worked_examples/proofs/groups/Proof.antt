@@ -1,0 +1,82 @@
+-- `worked_examples::groups` is safe and ends. Assumes nothing.
+use mathlib.Core.Path.{_≡_, sym, ap, _∙_}
+use Prim.Native.Nat.{_-_, _+_, _≤_}
+use native.Mathlib.Omega.{arith}
+use lib.ListN.{length, length-set}
+use lib.Seq.{length-take-le}
+use borrow.Author.Needs.{needs}
+use Rattle.worked_examples.proofs.groups.Statement.{statement}
+use Rattle.worked_examples.proofs.groups.Tie as tie
+
+abbrev Inv-loop : tie.InvT-loop
+Inv-loop line coding pairs n g₀ g = g ≤ 8
+
+abbrev μ-loop : tie.MeasureT-loop
+μ-loop line coding pairs n g₀ g = 8 - g
+
+returns : tie.Need-returns Inv-loop μ-loop
+returns c = search needs
+
+coding-at-requires : tie.Need-coding-at-requires Inv-loop μ-loop
+coding-at-requires c κs = search needs
+
+sub-pairs : tie.Need-sub-pairs Inv-loop μ-loop
+sub-pairs c = search needs
+
+part-pairs-start : tie.Need-part-pairs-start Inv-loop μ-loop
+part-pairs-start c = search needs
+
+part-pairs-end : tie.Need-part-pairs-end Inv-loop μ-loop
+part-pairs-end c = search needs
+
+cast-groups : tie.Need-cast-groups Inv-loop μ-loop
+cast-groups c = search needs
+
+groups-requires : tie.Need-groups-requires Inv-loop μ-loop
+groups-requires c κs = search needs
+
+loop-holds : tie.Need-loop-holds Inv-loop μ-loop
+loop-holds c = search needs
+
+cast-if2 : tie.Need-cast-if2 Inv-loop μ-loop
+cast-if2 c = search needs
+
+group-requires : tie.Need-group-requires Inv-loop μ-loop
+group-requires c κs = search needs
+
+print-group-requires : tie.Need-print-group-requires Inv-loop μ-loop
+print-group-requires c κs = search needs
+
+add-g : tie.Need-add-g Inv-loop μ-loop
+add-g c = search needs
+
+loop-less : tie.Need-loop-less Inv-loop μ-loop
+loop-less c = search needs
+
+loop-again : tie.Need-loop-again Inv-loop μ-loop
+loop-again c = search needs
+
+returns-2 : tie.Need-returns-2 Inv-loop μ-loop
+returns-2 c = search needs
+
+pub groups-spec : {M : Type 1} → statement M
+groups-spec =
+    tie.close
+    (tie.spec
+    Inv-loop
+    μ-loop
+    returns
+    coding-at-requires
+    sub-pairs
+    part-pairs-start
+    part-pairs-end
+    cast-groups
+    groups-requires
+    loop-holds
+    cast-if2
+    group-requires
+    print-group-requires
+    add-g
+    loop-less
+    loop-again
+    returns-2)

@@ -1,0 +1,200 @@
+// Runs worked examples of document 01, and both sides of the limits of its rules. Each line of standard input is an example: a
+// letter that says what is asked, a space, and the question. The program prints the line and, behind it, what the library answers.
+use codeword::Codeword;
+use codeword::Correction;
+use job::JobAnswer;
+use libc::STDIN_FILENO;
+use libc::STDOUT_FILENO;
+use text::Coding;
+
+fn print(s: &[u8]) {
+    io::write_all(STDOUT_FILENO, s);
+}
+
+fn print_number(n: u64) {
+    io::print_decimal(STDOUT_FILENO, n);
+}
+
+// A word in eight upper-case digits.
+fn print_word(word: u32) {
+    let mut digits = [0u8; 8];
+    base::write_digits(&mut digits, word);
+    print(b" ");
+    print(&digits);
+}
+
+// Twenty bits in five upper-case digits.
+fn print_group(bits: u32) {
+    let mut digits = [0u8; 5];
+    base::write_digits(&mut digits, bits);
+    print(b" ");
+    print(&digits);
+}
+
+// The number that the digits from `at` to `end` of a slice write; 0 where there are none.
+fn number_in(s: &[u8], at: usize, end: usize) -> u32 {
+    if at <= end {
+        if end <= s.len() {
+            return base::hex_number(&s[at..end]);
+        }
+    }
+    0
+}
+
+// `A 000009 0`: the address codeword of an identity and a function.
+fn address(line: &[u8]) {
+    print_word(Codeword::address(number_in(line, 2, 8), number_in(line, 9, 10)).word());
+}
+
+// `M 84333`: the message codeword of 20 bits.
+fn message(line: &[u8]) {
+    print_word(Codeword::message(number_in(line, 2, 7)).word());
+}
+
+fn print_correction(answer: Correction) {
+    let Correction::Corrected(c) = answer else {
+        print(b" refused 20");
+        return;
+    };
+    print_word(c.word());
+}
+
+// `W 00000003`: what a received word reads as, alone and by the table that is made for many.
+fn word(line: &[u8]) {
+    let w = number_in(line, 2, 10);
+    print_correction(codeword::correct(w));
+    let table = codeword::wrong_bits_table();
+    print_correction(codeword::correct_by(&table, w));
+}
+
+// Numeric for the digit 4, otherwise alphanumeric.
+fn coding_at(line: &[u8], at: usize) -> Coding {
+    if at < line.len() {
+        return job::coding(base::hex_value(line[at]));
+    }
+    Coding::Alphanumeric
+}
+
+// `T 000009 4 3132`: the groups of the text of a page line, the first eight of them.
+fn groups(line: &[u8]) {
+    if line.len() < 11 {
+        return;
+    }
+    let coding = coding_at(line, 9);
+    let pairs = &line[11..];
+    let n = text::groups(coding, (pairs.len() / 2 % 65536) as u16);
+    let mut g: u16 = 0;
+    while g < 8 {
+        if (g as usize) < n {
+            print_group(text::group(coding, pairs, g));
+        }
+        g += 1;
+    }
+}
+
+// `H 4 84333 00000`: the text that two groups say, between bars.
+fn heard(line: &[u8]) {
+    let coding = coding_at(line, 2);
+    let groups = [number_in(line, 4, 9), number_in(line, 10, 15)];
+    print(b" |");
+    print_heard(coding, &groups);
+    print(b"|");
+}
+
+fn print_heard(coding: Coding, groups: &[u32]) {
+    let n = text::heard_length(coding, groups);
+    let mut i: usize = 0;
+    while i < n {
+        print(&[text::heard_char(coding, groups, i)]);
+        i += 1;
+    }
+}
+
+// A newline for a bar, and any other byte as it is.
+fn newline_for_bar(b: u8) -> u8 {
+    match b {
+        b'|' => b'\n',
+        _ => b,
+    }
+}
+
+// Writes a question over the front of a longer slice, a newline for each `|`, and answers how many bytes that took.
+fn newlines(question: &[u8], out: &mut [u8]) -> usize {
+    if out.len() <= question.len() {
+        return 0;
+    }
+    let mut i: usize = 0;
+    while i < question.len() {
+        out[i] = newline_for_bar(question[i]);
+        i += 1;
+    }
+    i
+}
+
+fn print_answer(answer: JobAnswer) {
+    match answer {
+        JobAnswer::Accepted(n) => {
+            print(b" accepted ");
+            print_number(n as u64);
+        }
+        JobAnswer::Refused { why: _, place: _ } => {
+            print(b" refused ");
+            print_number(job::number(answer) as u64);
+            print(b" place ");
+            print_number(job::place(answer) as u64);
+        }
+    }
+}
+
+// `J 000009 0|`: what a job is answered.
+fn job(line: &[u8]) {
+    if line.len() < 2 {
+        return;
+    }
+    let mut bytes = io::buffer();
+    let n = newlines(&line[2..], &mut bytes);
+    answer_front(&bytes, n);
+}
+
+// What the first n bytes of a slice are answered as a job.
+fn answer_front(bytes: &[u8], n: usize) {
+    if n <= bytes.len() {
+        let answer = job::read_job(&bytes[..n]).answer;
+        print_answer(answer);
+    }
+}
+
+// An example, and what the library answers.
+fn run(line: &[u8]) {
+    print(line);
+    if line.len() == 0 {
+        print(b"\n");
+        return;
+    }
+    let asked = line[0];
+    match asked {
+        b'A' => address(line),
+        b'M' => message(line),
+        b'W' => word(line),
+        b'T' => groups(line),
+        b'H' => heard(line),
+        b'J' => job(line),
+        _ => {}
+    }
+    print(b"\n");
+}
+
+fn run_all(input: &[u8]) {
+    let mut at: usize = 0;
+    while at < input.len() {
+        let end = base::line_end(input, at);
+        run(&input[at..end]);
+        at = end + 1;
+    }
+}
+
+fn main() {
+    let mut input = io::large_buffer();
+    let n = io::read_full(STDIN_FILENO, &mut input);
+    run_all(&input[..n]);
+}
