@@ -4,3 +4,4 @@ pub mod Transmitted
 pub mod Filling
 pub mod Begun
 pub mod Written
+pub mod Planned

@@ -93,7 +93,7 @@ abbrev Apart : List Sending → ℕ → ℕ → Type 0
 Apart xs m k = (i j : ℕ) → i < m → j ≤ groupCount xs i → k ≡ slotIndex (slotFor xs i j) → ⊥
 
 module _ (xs : List Sending) (words : List ℕ) where
-  with-length : (m : ℕ) → length (withSendings xs m words) ≡ length words
+  pub with-length : (m : ℕ) → length (withSendings xs m words) ≡ length words
   unfolding withSendings
   with-length zero = refl
   with-length (suc m) = begun-length (sendingAt xs m) (slotOf (placementOf xs) m) (withSendings xs m words) (suc (groupCount xs m)) ∙ with-length m

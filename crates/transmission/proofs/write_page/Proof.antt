@@ -101,9 +101,9 @@ loop-again c =
       omega arith,
       length-set (at .loop .words) (c .slot-index2 .result) (c .before .word2 .result) ∙ at .loop .inv .1,
       λ w e. begun-more (sendingFrom (args .identity) (args .kind) bytes) (args .slot) w j (at .loop .inv .2 w e) (c .slot-index2 .ensures)
-      (message-from (args .identity) (args .kind) bytes j (omega arith)
-      (c .before .before .before .group .ensures ∙ ap (λ (x : Coding). groupOf x bytes j) coded)
-      (c .before .word2 .ensures ∙ c .before .before .message .ensures)),
+          (message-from (args .identity) (args .kind) bytes j (omega arith)
+          (c .before .before .before .group .ensures ∙ ap (λ (x : Coding). groupOf x bytes j) coded)
+          (c .before .word2 .ensures ∙ c .before .before .message .ensures)),
     )
 
 same-length : tie.Need-same-length Inv-loop μ-loop
