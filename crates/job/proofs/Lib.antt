@@ -2,3 +2,5 @@ pub mod Laws
 pub mod Sound
 pub mod Keeping
 pub mod Accepted
+pub mod PrintLaws
+pub mod Printed

@@ -3,3 +3,5 @@ pub mod Line
 pub mod Pages
 pub mod Job
 pub mod Accepted
+pub mod Print
+pub mod PrintsBack

@@ -1,13 +1,15 @@
 // Reads a job's page lines (document 01, "Page lines" and the table of refusals).
 ghost use mathlib.Core.Path.{_≡_};
 ghost use mathlib.Core.List.{[]};
-ghost use Prim.Native.Nat.{_*_};
-ghost use lib.ListN.{take, drop};
+ghost use Prim.Native.Nat.{_*_, _≤_};
+ghost use lib.ListN.{length, take, drop};
 ghost use Rattle.base.specs.Hex.{bytesOf};
 ghost use Rattle.base.specs.Lines.{split};
 ghost use Rattle.job.specs.Refusal.{numberOf, jobNumber, jobPlace};
 ghost use Rattle.job.specs.Line.{isPairs, headFormed, tailFormed, wellFormed, isReserved, longestOf, codingOf, functionOf, tonePageOf, textPageOf, kindPageOf, pageOf, lineOf};
 ghost use Rattle.job.specs.Pages.{pagesOf};
+ghost use Rattle.base.specs.Lists.{over};
+ghost use Rattle.job.specs.Print.{headOf, spaced, ending, printed, printingOf, written};
 ghost use Rattle.job.specs.Job.{judge, tableOf, answerWith, readingOf};
 use text::Coding;
 
@@ -337,4 +339,80 @@ pub fn page_text(job: &[u8], start: usize, count: usize) -> &[u8]
     }
     let end = start + 2 * count;
     &job[start..end]
+}
+
+// What printing a page line answers.
+pub enum Printing {
+    // The line's length in bytes.
+    Printed(usize),
+    // The lent slice is shorter than the line: number 10.
+    NoRoom,
+}
+
+// Prints the line of a page whose text is written in these digits, `-` before its newline where it was cut short, over the front
+// of the slice. Only the low six digits of the identity and the low digit of the kind are printed.
+pub fn print_line(out: &mut [u8], identity: u32, kind: u8, digits: &[u8], cut: bool) -> Printing
+    ensures { λ r. ⌜ r ≡ printingOf (length (now (out .entry))) (printed identity kind (now (digits .entry)) cut) ⌝ }
+    ensures { λ r. ⌜ now (out .exit) ≡ over (now (out .entry)) (written r (printed identity kind (now (digits .entry)) cut)) ⌝ }
+{
+    let end = 8 + spaced_length(digits);
+    let n = end + ending_length(cut);
+    if out.len() < n {
+        return Printing::NoRoom;
+    }
+    print_head(out, identity, kind);
+    print_text(&mut out[8..], digits);
+    print_ending(&mut out[end..], cut);
+    Printing::Printed(n)
+}
+
+fn spaced_length(digits: &[u8]) -> usize
+    ensures { λ r. ⌜ r ≡ length (spaced (now (digits .entry))) ⌝ }
+{
+    if digits.len() == 0 {
+        0
+    } else {
+        digits.len() + 1
+    }
+}
+
+fn ending_length(cut: bool) -> usize
+    ensures { λ r. ⌜ r ≡ length (ending cut) ⌝ }
+{
+    if cut { 2 } else { 1 }
+}
+
+// The identity and the kind, over the front of the slice.
+fn print_head(out: &mut [u8], identity: u32, kind: u8)
+    requires { ⌜ 8 ≤ length (now out) ⌝ }
+    ensures { λ _. ⌜ now (out .exit) ≡ over (now (out .entry)) (headOf identity kind) ⌝ }
+{
+    base::write_digits(&mut out[..6], identity);
+    out[6] = b' ';
+    out[7] = base::hex_digit(kind as u32);
+}
+
+// The text's digits behind a space, over the front of the slice; nothing where there are none.
+fn print_text(out: &mut [u8], digits: &[u8])
+    requires { ⌜ length (spaced (now digits)) ≤ length (now out) ⌝ }
+    ensures { λ _. ⌜ now (out .exit) ≡ over (now (out .entry)) (spaced (now (digits .entry))) ⌝ }
+{
+    if digits.len() == 0 {
+        return;
+    }
+    out[0] = b' ';
+    bytes::copy(digits, &mut out[1..]);
+}
+
+// The end of the line, over the front of the slice.
+fn print_ending(out: &mut [u8], cut: bool)
+    requires { ⌜ length (ending cut) ≤ length (now out) ⌝ }
+    ensures { λ _. ⌜ now (out .exit) ≡ over (now (out .entry)) (ending cut) ⌝ }
+{
+    if cut {
+        out[0] = b'-';
+        out[1] = b'\n';
+    } else {
+        out[0] = b'\n';
+    }
 }
