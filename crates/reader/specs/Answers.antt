@@ -1,0 +1,83 @@
+-- What reading words or a listing answers, and what it leaves in the lent slice of bytes.
+use mathlib.Core.Bool.{Bool, not, cond, _||_}
+use mathlib.Core.List.{List, []}
+use Prim.Native.Nat.{ℕ, _+_, _*_, _/_, _%_}
+use lib.ListN.{length, getD}
+use lib.Dec.{eqb, ltb}
+use Rattle.base.specs.Search.{least}
+use Rattle.codeword.specs.Nearest.{nearest}
+use Rattle.listing.specs.Listing.{listingOf}
+use Rattle.listing.specs.Words.{wordsOf}
+use Rattle.listing.specs.declared.Fault as listing-fault-type
+use Rattle.listing.specs.declared.Fault.the-variants as listing-fault
+use Rattle.listing.specs.declared.Listing.{Listing}
+use Rattle.listing.specs.declared.Listing.the-variants as listing
+use Rattle.reader.specs.Meaning.{isSync}
+use Rattle.reader.specs.Reading.{Heard, heardIn}
+use Rattle.reader.specs.Lines.{linesHeard}
+use Rattle.reader.specs.declared.Fault.{Fault}
+use Rattle.reader.specs.declared.Fault.the-variants.{Malformed, TooMany, Unsynced, NoRoom}
+use Rattle.reader.specs.declared.Reading.{Reading}
+use Rattle.reader.specs.declared.Reading.the-variants.{Read, Declined}
+
+-- batch q, from 0, does not begin with a word that corrects to sync
+abbrev pub unsynced : List ℕ → ℕ → Bool
+unsynced words q = not (isSync (nearest (getD words (17 * q) 0)))
+
+-- the first such batch, or the number of batches
+unfoldable pub firstUnsynced : List ℕ → ℕ
+firstUnsynced words = least (unsynced words) (length words / 17)
+
+-- what was heard, into room for so many bytes: number 10 where the lines are longer
+abbrev pub printedInto : Heard → ℕ → Reading
+printedInto h room =
+    cond (ltb room (length (linesHeard (h .pages)))) (Declined NoRoom)
+    (Read (length (h .pages)) (h .lost) (h .orphans) (length (linesHeard (h .pages))))
+
+-- whole batches: the first that does not begin with sync is number 22; then number 10
+unfoldable pub readBatches : List ℕ → ℕ → Reading
+readBatches words room =
+    cond (ltb (firstUnsynced words) (length words / 17)) (Declined (Unsynced (firstUnsynced words + 1)))
+    (printedInto (heardIn words) room)
+
+-- a slice of words: empty or not a multiple of 17 is number 21, over 300 batches number 23, both with place 0
+unfoldable pub readWords : List ℕ → ℕ → Reading
+readWords words room =
+    cond (eqb (length words) 0 || not (eqb (length words % 17) 0)) (Declined (Malformed 0))
+    (cond (ltb 300 (length words / 17)) (Declined (TooMany 0))
+    (readBatches words room))
+
+-- a listing's fault
+abbrev pub faultOf : listing-fault-type.Fault → Fault
+faultOf (listing-fault.Malformed line) = Malformed line
+faultOf (listing-fault.TooMany line) = TooMany line
+faultOf listing-fault.ShortBuffer = NoRoom
+
+-- a listing: 21 or 23 as its lines have it, then 22 and 10 of its batches
+abbrev pub readFrom : Listing → List ℕ → ℕ → Reading
+readFrom (listing.Declined why) words room = Declined (faultOf why)
+readFrom (listing.WellFormed preamble batches) words room = readBatches words room
+
+unfoldable pub readListing : List ℕ → ℕ → Reading
+readListing s room = readFrom (listingOf s) (wordsOf s) room
+
+-- what is written over the front of the bytes: the lines of these words, or nothing where the reading is declined
+abbrev pub linesRead : Reading → List ℕ → List ℕ
+linesRead (Read pages lost orphans bytes) words = linesHeard (heardIn words .pages)
+linesRead (Declined why) words = []
+
+-- the number of a reading in document 01's table, 0 where it is read
+abbrev pub numberOf : Reading → ℕ
+numberOf (Read pages lost orphans bytes) = 0
+numberOf (Declined (Malformed line)) = 21
+numberOf (Declined (TooMany line)) = 23
+numberOf (Declined (Unsynced batch)) = 22
+numberOf (Declined NoRoom) = 10
+
+-- its place: a line, 0 for words; a batch, from 1
+abbrev pub placeOf : Reading → ℕ
+placeOf (Read pages lost orphans bytes) = 0
+placeOf (Declined (Malformed line)) = line
+placeOf (Declined (TooMany line)) = line
+placeOf (Declined (Unsynced batch)) = batch
+placeOf (Declined NoRoom) = 0
