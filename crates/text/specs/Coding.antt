@@ -12,10 +12,12 @@ use Rattle.text.specs.declared.NumericValue.the-variants.{Value, NotNume
 use Rattle.text.specs.declared.Coding.{Coding}
 use Rattle.text.specs.declared.Coding.the-variants.{Numeric, Alphanumeric}
 
+-- whether there is a value
 abbrev pub hasValue : NumericValue → Bool
 hasValue (Value n) = true
 hasValue NotNumeric = false
 
+-- the value, or 0 where there is none
 abbrev pub valueOr0 : NumericValue → ℕ
 valueOr0 (Value n) = n
 valueOr0 NotNumeric = 0

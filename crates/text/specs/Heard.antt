@@ -56,6 +56,7 @@ trimmed (b ∷ s) = ahead b (trimmed s)
 abbrev pub ends : ℕ → Bool
 ends b = eqb b 0 || between 3 4 b
 
+-- any other goes on
 abbrev pub goesOn : ℕ → Bool
 goesOn b = not (ends b)
 

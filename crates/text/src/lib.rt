@@ -52,6 +52,7 @@ fn numeric_byte(v: u8) -> u8
     }
 }
 
+// Whether a byte is a Table III character.
 fn is_numeric(b: u8) -> bool
     ensures { λ r. ⌜ r ≡ isNumeric b ⌝ }
 {
