@@ -1,7 +1,7 @@
 -- What is written is read back: `ReadBack` for every transmission of 1 to 300 batches. Assumes nothing.
 use Prim.Native.Nat.{ℕ, zero, suc, _+_, _-_, _*_, _/_, _%_, _^_, _≤_, _<_}
 use mathlib.Core.Path.{_≡_, refl, ap, sym, _∙_}
-use mathlib.Core.List.{List, [], _∷_}
+use mathlib.Core.List.{List}
 use mathlib.Core.Bool.{true, false}
 use mathlib.Core.Logic.{⊎-elim}
 use native.Mathlib.Numerals.{add-one}
@@ -17,13 +17,12 @@ use Rattle.base.specs.Lists.{over, tab}
 use Rattle.base.proofs.Bools.{either, and-false}
 use Rattle.base.proofs.HexLaws.{digits-hex}
 use Rattle.listing.specs.Text.{opensFrame, endOf, textOf}
-use Rattle.listing.specs.Listing.{hasTwo, framesIn, preambleOf, isDue, batches, listingOf, lineFrom, lineBytes}
-use Rattle.listing.specs.Words.{wordsOf, wordAt, wordsFrom}
-use Rattle.listing.specs.Answers.{readingOf, wordsRead, writingOf, bytesWritten}
+use Rattle.listing.specs.Listing.{framesIn, preambleOf, isDue, batches, listingOf}
+use Rattle.listing.specs.Words.{wordAt}
+use Rattle.listing.specs.Scan.{lineFrom, lineBytes, wordsFrom}
+use Rattle.listing.specs.Answers.{writingOf}
 use Rattle.listing.specs.ReadBack.{OfBatches, ReadBack}
 use Rattle.listing.specs.declared.Listing.the-variants.{WellFormed}
-use Rattle.listing.specs.declared.Reading.{Reading}
-use Rattle.listing.specs.declared.Reading.the-variants.{Words}
 use Rattle.listing.specs.declared.Writing.the-variants.{Bytes}
 use Rattle.listing.proofs.FirstLine.{alone, pair, one-word, two-words}
 use Rattle.listing.proofs.BatchLaws.{frames-more, frames-stop, listing-long, batches-more, batches-end, whole-yes}

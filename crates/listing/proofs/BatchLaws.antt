@@ -1,24 +1,25 @@
 -- How the lines of a listing go on, one at a time, and the numbers of a well-formed one. Assumes nothing.
 use Prim.Native.Nat.{ℕ, zero, suc, _+_, _-_, _*_, _/_, _%_, _≤_, _<_}
 use mathlib.Core.Path.{_≡_, refl, ap, sym, _∙_}
-use mathlib.Core.List.{List, [], _∷_}
+use mathlib.Core.List.{List}
 use mathlib.Core.Bool.{Bool, true, false, cond, _&&_}
 use mathlib.Core.Logic.{⊎-elim}
 use native.Mathlib.Nat.{eq-or-lt-of-le}
 use native.Mathlib.Omega.{arith}
-use borrow.Author.Tests.{eq-eqb, ne-eqb, eqb-true, eqb-false, lt-ltb, le-ltb, ltb-true}
+use borrow.Author.Tests.{eq-eqb, ne-eqb, eqb-true, eqb-false, lt-ltb, le-ltb}
 use lib.Dec.{eqb, ltb}
-use lib.ListN.{length, drop, length-drop, drop-of-length-le}
+use lib.ListN.{length, drop, length-drop}
 use lib.Seq.{drop-drop}
 use Rattle.base.specs.Lines.{Lines, behind, line, split, lineAt}
 use Rattle.base.proofs.Bools.{either, and-true}
 use Rattle.base.proofs.LinesLaws.{none-left}
-use Rattle.listing.specs.Listing.{hasOne, hasTwo, framesIn, preambleOf, skip, isDue, isWhole, batches, listingOf, lineFrom, lineBytes}
+use Rattle.listing.specs.Listing.{hasTwo, framesIn, preambleOf, skip, isDue, isWhole, batches, listingOf}
+use Rattle.listing.specs.Scan.{lineFrom, lineBytes}
 use Rattle.listing.specs.declared.Fault.{Fault}
 use Rattle.listing.specs.declared.Fault.the-variants.{Malformed, TooMany}
 use Rattle.listing.specs.declared.Listing.{Listing}
 use Rattle.listing.specs.declared.Listing.the-variants.{WellFormed, Declined}
-use Rattle.listing.proofs.FirstLine.{first-line, lines-of, alone, pair, alone-line, pair-line, alone-inside, pair-inside, one-word, two-words}
+use Rattle.listing.proofs.FirstLine.{first-line, lines-of, alone-line, pair-line, alone-inside, pair-inside, one-word, two-words}
 
 -- ---- lines of two words
 

@@ -1,6 +1,6 @@
 -- The first line of a text, told by the bytes at fixed places: which words it has, and what stands behind it. Assumes nothing.
-use Prim.Native.Nat.{ℕ, zero, suc, _+_, _-_, _≤_, _<_}
-use mathlib.Core.Path.{_≡_, refl, ap, sym, _∙_}
+use Prim.Native.Nat.{ℕ, zero, suc, _+_, _-_, _<_}
+use mathlib.Core.Path.{_≡_, refl, sym, _∙_}
 use mathlib.Core.List.{List, [], _∷_}
 use mathlib.Core.Bool.{Bool, true, false, _&&_}
 use mathlib.Core.Logic.{_⊎_, inl, inr, ⊎-elim}
@@ -16,7 +16,8 @@ use Rattle.base.specs.Lines.{Lines, behind, line, split, lineAt, notNewline, li
 use Rattle.base.proofs.Bools.{either, true-false, and-true, and-false}
 use Rattle.base.proofs.LeadingLaws.{leading-le}
 use Rattle.base.proofs.LinesLaws.{cut, uncut}
-use Rattle.listing.specs.Listing.{isWord, hasOne, hasTwo, lineFrom}
+use Rattle.listing.specs.Listing.{isWord, hasOne, hasTwo}
+use Rattle.listing.specs.Scan.{lineFrom}
 
 -- ---- lists and Booleans
 

@@ -1,21 +1,21 @@
 -- The words of a listing's batches, by lines, are those of the text by index: each takes nine bytes. Assumes nothing.
-use Prim.Native.Nat.{ℕ, zero, suc, _+_, _-_, _*_, _/_, _%_, _≤_, _<_}
+use Prim.Native.Nat.{ℕ, suc, _+_, _-_, _*_, _/_, _%_, _≤_, _<_}
 use mathlib.Core.Path.{_≡_, refl, ap, ap₂, sym, _∙_}
 use mathlib.Core.List.{List, [], _∷_}
-use mathlib.Core.Bool.{Bool, true, false}
+use mathlib.Core.Bool.{true, false}
 use mathlib.Core.Logic.{⊎-elim}
 use native.Mathlib.Omega.{arith}
 use borrow.Author.Tests.{eqb-true, eqb-false, lt-ltb, le-ltb}
 use lib.Dec.{eqb}
-use lib.ListN.{length, take, drop, length-drop}
+use lib.ListN.{length, take, drop}
 use lib.Seq.{take-take, drop-drop, length-take-le}
-use Rattle.base.specs.Hex.{hexNumber}
 use Rattle.base.specs.Lines.{Lines, behind, line, split, lineAt}
 use Rattle.base.specs.Lists.{over, tab}
 use Rattle.base.proofs.Bools.{either}
 use Rattle.base.proofs.ListLaws.{tab-same}
-use Rattle.listing.specs.Listing.{hasOne, hasTwo, skip, isDue, batches, listingOf, lineFrom}
-use Rattle.listing.specs.Words.{lineWords, wordsIn, batchWords, wordsOf, wordAt, wordsFrom}
+use Rattle.listing.specs.Listing.{hasOne, hasTwo, isDue, batches, listingOf}
+use Rattle.listing.specs.Words.{lineWords, wordsIn, wordAt}
+use Rattle.listing.specs.Scan.{wordsFrom, ByIndex}
 use Rattle.listing.specs.Answers.{readingOf, wordsRead, afterRead}
 use Rattle.listing.specs.declared.Fault.{Fault}
 use Rattle.listing.specs.declared.Fault.the-variants.{ShortBuffer}
@@ -95,12 +95,12 @@ module _ (s : List ℕ) (p b : ℕ) where
       rw (two .0, size, words-more s k (suc (n - 2)), words-more s (k + 1) (n - 2), w) (ap (λ (ws : List ℕ). wordAt s k ∷ wordAt s (k + 1) ∷ ws) rest))
       (either (eqb (q % 9) 0))
 
-  -- the batches' words stand behind the two of each preamble line
-  pub words-indexed : listingOf s ≡ WellFormed p b → wordsOf s ≡ wordsFrom s (2 * p) (17 * b)
-  words-indexed e =
-      let f = listing-formed s p b e in
-      let z : 9 * (2 * p) ≡ 18 * p = omega arith in
-      rw (e, f .2) (indexed (split (drop (18 * p) s)) 0 (2 * p) (17 * b) (rw z) (f .3) (omega arith) (omega arith) refl)
+-- the batches' words stand behind the two of each preamble line
+pub words-indexed : ByIndex
+words-indexed s p b e =
+    let f = listing-formed s p b e in
+    let z : 9 * (2 * p) ≡ 18 * p = omega arith in
+    rw (e, f .2) (indexed s p b (split (drop (18 * p) s)) 0 (2 * p) (17 * b) (rw z) (f .3) (omega arith) (omega arith) refl)
 
 -- ---- the answers of reading
 

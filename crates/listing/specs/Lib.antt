@@ -3,3 +3,4 @@ pub mod Listing
 pub mod Words
 pub mod Answers
 pub mod ReadBack
+pub mod Scan

@@ -1,4 +1,4 @@
--- What is written is read back: the listing of a transmission of 1 to 300 batches has its words.
+-- What is written is read back: the listing of a transmission of 1 to 300 batches, the limits of document 01, has its words.
 use Prim.Native.Nat.{ℕ, _+_, _*_, _^_, _≤_, _<_}
 use mathlib.Core.List.{List}
 use mathlib.Core.Path.{_≡_}
@@ -19,6 +19,7 @@ pub record OfBatches (words : List ℕ) (b : ℕ) : Type 0 where
   pub few : b ≤ 300
   pub small : (k : ℕ) → getD words k 0 < 2 ^ 32
 
+-- what the calls `write`, `check`, `read` and `word` promise of such words, and of their text
 pub record ReadBack (words : List ℕ) (b : ℕ) : Type 0 where
   -- writing into a slice with room answers how many bytes the text has, and the slice then begins with them
   pub writing : (old : List ℕ) → 9 * length words ≤ length old

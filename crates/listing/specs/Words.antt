@@ -1,16 +1,15 @@
--- The words of a listing.
-use Prim.Native.Nat.{ℕ, _+_, _*_}
+-- The words of a listing (document 01, "Listings and reading").
+use Prim.Native.Nat.{ℕ, _*_}
 use mathlib.Core.List.{List, [], _∷_, _++_}
 use mathlib.Core.Bool.{cond}
 use lib.ListN.{take, drop}
 use Rattle.base.specs.Hex.{hexNumber}
 use Rattle.base.specs.Lines.{Lines, behind, line, split}
-use Rattle.base.specs.Lists.{tab}
 use Rattle.listing.specs.Listing.{hasOne, skip, listingOf}
 use Rattle.listing.specs.declared.Listing.{Listing}
 use Rattle.listing.specs.declared.Listing.the-variants.{WellFormed, Declined}
 
--- the words of a line: one alone, or the two of a frame
+-- the words of a line: the sync word alone, or the two of a frame
 unfoldable pub lineWords : List ℕ → List ℕ
 lineWords l = cond (hasOne l) (hexNumber 0 l ∷ []) (hexNumber 0 (take 8 l) ∷ hexNumber 0 (drop 9 l) ∷ [])
 
@@ -19,7 +18,7 @@ unfoldable pub wordsIn : Lines → List ℕ
 wordsIn (behind t) = []
 wordsIn (line l ls) = lineWords l ++ wordsIn ls
 
--- the words of the batches: those of the lines behind the preamble; none where the listing is declined
+-- the words that are read: those of the batches, behind the preamble; none of a listing that is declined
 abbrev pub batchWords : List ℕ → Listing → List ℕ
 batchWords s (WellFormed p b) = wordsIn (skip p (split s))
 batchWords s (Declined why) = []
@@ -28,10 +27,6 @@ batchWords s (Declined why) = []
 abbrev pub wordsOf : List ℕ → List ℕ
 wordsOf s = batchWords s (listingOf s)
 
--- word k of a text, from 0, those of the preamble counted: each takes nine bytes, its eight digits and the byte behind them
+-- word k of a text, from 0, the preamble's counted: each word takes nine bytes, its eight digits and the byte behind them
 unfoldable pub wordAt : List ℕ → ℕ → ℕ
 wordAt s k = hexNumber 0 (take 8 (drop (9 * k) s))
-
--- n words of a text, from word k on
-abbrev pub wordsFrom : List ℕ → ℕ → ℕ → List ℕ
-wordsFrom s k n = tab (λ i. wordAt s (k + i)) n

@@ -5,9 +5,10 @@ ghost use lib.ListN.{length};
 ghost use Rattle.base.specs.Lines.{split};
 ghost use Rattle.base.specs.Lists.{over};
 ghost use Rattle.listing.specs.Text.{endOf};
-ghost use Rattle.listing.specs.Listing.{hasOne, hasTwo, preambleOf, isDue, listingOf, lineFrom, lineBytes};
-ghost use Rattle.listing.specs.Words.{wordAt, wordsFrom};
+ghost use Rattle.listing.specs.Listing.{hasOne, hasTwo, preambleOf, isDue, listingOf};
+ghost use Rattle.listing.specs.Words.{wordAt};
 ghost use Rattle.listing.specs.Answers.{numberOf, placeOf, readingOf, afterRead, writingOf, afterWrite};
+ghost use Rattle.listing.specs.Scan.{lineFrom, lineBytes, wordsFrom};
 
 // Why a call is declined. A line is counted from 1.
 pub enum Fault {
@@ -60,7 +61,7 @@ pub fn place(why: Fault) -> usize
     }
 }
 
-// Whether the line that starts at a byte has a word alone. Its digits are read last, and once.
+// Whether the line that starts at a byte has a word alone. Here and in `has_two` the digits come last, so that checking reads no digit twice.
 fn has_one(s: &[u8], at: usize) -> bool
     requires { ⌜ at ≤ length (now s) ⌝ }
     ensures { λ r. ⌜ r ≡ hasOne (lineFrom (now (s .entry)) at) ⌝ }
@@ -68,11 +69,11 @@ fn has_one(s: &[u8], at: usize) -> bool
     if s.len() - at <= 8 {
         return false;
     }
-    let stop = at + 8;
-    if s[stop] != b'\n' {
+    let end = at + 8;
+    if s[end] != b'\n' {
         return false;
     }
-    base::hex_run(&s[at..stop]) == 8
+    base::hex_run(&s[at..end]) == 8
 }
 
 // Whether the line that starts at a byte has two words with a space between.
@@ -98,7 +99,7 @@ fn has_two(s: &[u8], at: usize) -> bool
     base::hex_run(&s[second..stop]) == 8
 }
 
-// How many preamble lines a text begins with.
+// How many preamble lines a text begins with, counted up to 36.
 fn preamble_lines(s: &[u8]) -> usize
     ensures { λ r. ⌜ r ≡ preambleOf (split (now (s .entry))) ⌝ }
 {
@@ -112,7 +113,7 @@ fn preamble_lines(s: &[u8]) -> usize
     p
 }
 
-// Whether line q behind the preamble, which starts at a byte, has its words.
+// Whether line q of the batches, which starts at a byte, has its words.
 fn is_due(s: &[u8], at: usize, q: usize) -> bool
     requires { ⌜ at ≤ length (now s) ⌝ }
     ensures { λ r. ⌜ r ≡ isDue q (lineFrom (now (s .entry)) at) ⌝ }
@@ -123,7 +124,7 @@ fn is_due(s: &[u8], at: usize, q: usize) -> bool
     has_two(s, at)
 }
 
-// How many bytes line q behind the preamble takes.
+// How many bytes line q of the batches takes.
 fn line_bytes(q: usize) -> usize
     ensures { λ r. ⌜ r ≡ lineBytes q ⌝ }
 {
@@ -173,12 +174,12 @@ pub fn word(s: &[u8], k: usize) -> u32
     if s.len() / 9 < k {
         return 0;
     }
-    let at = 9 * k;
-    if s.len() - at < 8 {
-        return base::hex_number(&s[at..]);
+    let first = 9 * k;
+    if s.len() - first < 8 {
+        return base::hex_number(&s[first..]);
     }
-    let stop = at + 8;
-    base::hex_number(&s[at..stop])
+    let behind = first + 8;
+    base::hex_number(&s[first..behind])
 }
 
 // Writes n words of a text, from word k on.
@@ -193,7 +194,8 @@ fn fill(s: &[u8], k: usize, n: usize, words: &mut [u32])
     }
 }
 
-// Writes the words of a listing's batches, and answers how many they are. What stands behind them keeps its value.
+// Writes the words of a listing's batches, and answers how many they are. What stands behind them keeps its value. Each digit is
+// read twice, once to check it: nothing may be written before the whole listing is known to be right.
 pub fn read(s: &[u8], words: &mut [u32]) -> Reading
     ensures { λ r. ⌜ r ≡ readingOf (now (s .entry)) (length (now (words .entry))) ⌝ }
     ensures { λ _. ⌜ now (words .exit) ≡ afterRead (now (s .entry)) (now (words .entry)) ⌝ }

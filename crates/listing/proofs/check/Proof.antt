@@ -1,5 +1,5 @@
 -- `listing::check` meets its contract: what is passed leaves the answer to the lines that are left. Assumes nothing.
-use Prim.Native.Nat.{_+_, _-_, _*_, _≤_, _<_}
+use Prim.Native.Nat.{_+_, _-_, _≤_, _<_}
 use mathlib.Core.Path.{_≡_, sym, _∙_}
 use native.Mathlib.Omega.{arith}
 use borrow.Author.Needs.{needs}
@@ -8,15 +8,11 @@ use denote.Ref.{now}
 use lib.ListN.{length, drop, length-drop}
 use lib.Seq.{drop-drop}
 use Rattle.base.specs.Lines.{split}
-use Rattle.listing.specs.Listing.{batches, listingOf, lineBytes}
+use Rattle.listing.specs.Listing.{batches, listingOf}
+use Rattle.listing.specs.Scan.{lineBytes}
 use Rattle.listing.proofs.BatchLaws.{frames-le, frames-skip, listing-short, listing-long, due-inside, batches-more, batches-over, batches-stray, batches-end, whole-yes, whole-none, whole-part, below-limit}
 use Rattle.listing.proofs.check.Statement.{statement}
 use Rattle.listing.proofs.check.Tie as tie
-use Rattle.listing.proofs.check.Reads as reads
-use Rattle.listing.proofs.check.Lts as lts
-use Rattle.listing.proofs.is_due.Reads as is-due-reads
-use Rattle.listing.proofs.line_bytes.Reads as line-bytes-reads
-use Rattle.listing.proofs.preamble_lines.Reads as preamble-lines-reads
 
 abbrev Inv-loop : tie.InvT-loop
 Inv-loop s p at₀ q₀ at q = (p ≤ 36) × (q ≤ 2700) × (at ≤ length s) × (listingOf s ≡ batches p q (split (drop at s)))

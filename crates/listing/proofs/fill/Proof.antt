@@ -6,12 +6,10 @@ use borrow.Author.Needs.{needs}
 use denote.Ref.{now}
 use lib.ListN.{length, getD, length-set}
 use Rattle.base.proofs.ListLaws.{filled, filled-turn, filled-over, tab-length, tab-at}
-use Rattle.listing.specs.Words.{wordAt, wordsFrom}
+use Rattle.listing.specs.Words.{wordAt}
+use Rattle.listing.specs.Scan.{wordsFrom}
 use Rattle.listing.proofs.fill.Statement.{statement}
 use Rattle.listing.proofs.fill.Tie as tie
-use Rattle.listing.proofs.fill.Reads as reads
-use Rattle.listing.proofs.fill.Lts as lts
-use Rattle.listing.proofs.word.Reads as word-reads
 
 abbrev Inv-loop : tie.InvT-loop
 Inv-loop s k n words₀ i₀ words i = (i ≤ n) × (length words ≡ length words₀) × (words ≡ filled words₀ (wordsFrom s k n) i)

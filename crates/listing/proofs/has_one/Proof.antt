@@ -11,9 +11,6 @@ use Rattle.base.specs.Leading.{leading}
 use Rattle.listing.proofs.FirstLine.{one-open, one-digits}
 use Rattle.listing.proofs.has_one.Statement.{statement}
 use Rattle.listing.proofs.has_one.Tie as tie
-use Rattle.listing.proofs.has_one.Reads as reads
-use Rattle.listing.proofs.has_one.Lts as lts
-use Rattle.base.proofs.hex_run.Reads as hex-run-reads
 
 -- src/lib.rt:67:8
 sub-if1 : tie.Need-sub-if1
@@ -26,8 +23,8 @@ returns c =
     sym (one-open (now (a .s)) (a .at) (λ e. omega (arith, List·getD-eq-default (now (a .s)) 0 {n = a .at + 8} (omega arith))))
 
 -- src/lib.rt:70:16
-add-stop : tie.Need-add-stop
-add-stop c = search needs
+add-end : tie.Need-add-end
+add-end c = search needs
 
 -- src/lib.rt:71:8
 shared-slice-read-if2 : tie.Need-shared-slice-read-if2
@@ -69,7 +66,7 @@ has-one-spec =
     (tie.spec
     sub-if1
     returns
-    add-stop
+    add-end
     shared-slice-read-if2
     returns-2
     sub-hex-run

@@ -11,9 +11,6 @@ use Rattle.base.specs.Leading.{leading}
 use Rattle.listing.proofs.FirstLine.{two-open, two-apart, two-first, two-digits}
 use Rattle.listing.proofs.has_two.Statement.{statement}
 use Rattle.listing.proofs.has_two.Tie as tie
-use Rattle.listing.proofs.has_two.Reads as reads
-use Rattle.listing.proofs.has_two.Lts as lts
-use Rattle.base.proofs.hex_run.Reads as hex-run-reads
 
 -- src/lib.rt:82:8
 sub-if1 : tie.Need-sub-if1

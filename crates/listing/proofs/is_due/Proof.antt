@@ -5,10 +5,6 @@ use borrow.Author.Tests.{eq-eqb, ne-eqb}
 use Rattle.listing.specs.Listing.{isDue}
 use Rattle.listing.proofs.is_due.Statement.{statement}
 use Rattle.listing.proofs.is_due.Tie as tie
-use Rattle.listing.proofs.is_due.Reads as reads
-use Rattle.listing.proofs.is_due.Lts as lts
-use Rattle.listing.proofs.has_one.Reads as has-one-reads
-use Rattle.listing.proofs.has_two.Reads as has-two-reads
 
 has-one-requires : tie.Need-has-one-requires
 has-one-requires c κs = search needs

@@ -1,11 +1,9 @@
 -- `listing::line_bytes` meets its contract. Assumes nothing.
 use Prim.Native.Nat.{_%_}
 use borrow.Author.Tests.{eq-eqb, ne-eqb}
-use Rattle.listing.specs.Listing.{lineBytes}
+use Rattle.listing.specs.Scan.{lineBytes}
 use Rattle.listing.proofs.line_bytes.Statement.{statement}
 use Rattle.listing.proofs.line_bytes.Tie as tie
-use Rattle.listing.proofs.line_bytes.Reads as reads
-use Rattle.listing.proofs.line_bytes.Lts as lts
 
 returns : tie.Need-returns
 unfolding lineBytes

@@ -11,9 +11,6 @@ use Rattle.listing.specs.Listing.{framesIn, preambleOf}
 use Rattle.listing.proofs.BatchLaws.{frames-skip, frames-stop, frames-none, preamble-start, preamble-more}
 use Rattle.listing.proofs.preamble_lines.Statement.{statement}
 use Rattle.listing.proofs.preamble_lines.Tie as tie
-use Rattle.listing.proofs.preamble_lines.Reads as reads
-use Rattle.listing.proofs.preamble_lines.Lts as lts
-use Rattle.listing.proofs.has_two.Reads as has-two-reads
 
 abbrev Inv-loop : tie.InvT-loop
 Inv-loop s p₀ p = (p ≤ 36) × (preambleOf (split s) ≡ p + framesIn (36 - p) (split (drop (18 * p) s)))

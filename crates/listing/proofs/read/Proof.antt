@@ -1,5 +1,5 @@
 -- `listing::read` meets its contract: the listing's own fault, then too little room, then the words. Assumes nothing.
-use mathlib.Core.Path.{sym, ap, _∙_}
+use mathlib.Core.Path.{sym, _∙_}
 use native.Mathlib.Omega.{arith}
 use borrow.Author.Needs.{needs}
 use denote.Ref.{now}
@@ -7,10 +7,6 @@ use Rattle.listing.proofs.BatchLaws.{listing-formed}
 use Rattle.listing.proofs.Indexed.{read-declined, read-short, read-words}
 use Rattle.listing.proofs.read.Statement.{statement}
 use Rattle.listing.proofs.read.Tie as tie
-use Rattle.listing.proofs.read.Reads as reads
-use Rattle.listing.proofs.read.Lts as lts
-use Rattle.listing.proofs.check.Reads as check-reads
-use Rattle.listing.proofs.fill.Reads as fill-reads
 
 check-requires : tie.Need-check-requires
 check-requires c κs = search needs

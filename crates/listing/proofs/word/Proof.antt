@@ -1,27 +1,23 @@
 -- `listing::word` meets its contract: the eight bytes at 9 k, or what there is of them. Assumes nothing.
 use Prim.Native.Nat.{_+_, _-_, _*_, _≤_}
-use mathlib.Core.Path.{_≡_, sym, ap, _∙_}
+use mathlib.Core.Path.{_≡_, sym, _∙_}
 use native.Mathlib.Omega.{arith}
 use borrow.Author.Needs.{needs}
 use denote.Ref.{now}
 use lib.ListN.{length, take, drop, length-drop}
 use lib.Seq.{length-take-le, take-all}
-use Rattle.base.specs.Hex.{hexNumber}
 use Rattle.base.proofs.HexLaws.{number-fits}
 use Rattle.base.proofs.ListLaws.{to-end}
 use Rattle.listing.specs.Words.{wordAt}
 use Rattle.listing.proofs.TextLaws.{word-behind}
 use Rattle.listing.proofs.word.Statement.{statement}
 use Rattle.listing.proofs.word.Tie as tie
-use Rattle.listing.proofs.word.Reads as reads
-use Rattle.listing.proofs.word.Lts as lts
-use Rattle.base.proofs.hex_number.Reads as hex-number-reads
 
 returns : tie.Need-returns
 returns c = let a = c .before .before .args in sym (word-behind (now (a .s)) (a .k) (omega arith))
 
-mul-at : tie.Need-mul-at
-mul-at c = search needs
+mul-first : tie.Need-mul-first
+mul-first c = search needs
 
 sub-if2 : tie.Need-sub-if2
 sub-if2 c = search needs
@@ -46,8 +42,8 @@ returns-2 c =
     let short : length d ≤ 8 = omega (arith, length-drop (9 * a .k) (now (a .s))) in
     c .hex-number .ensures ∙ rw (to-end (9 * a .k) (now (a .s)), take-all 8 d short) (number-fits d short)
 
-add-stop : tie.Need-add-stop
-add-stop c = search needs
+add-behind : tie.Need-add-behind
+add-behind c = search needs
 
 sub-hex-number-2 : tie.Need-sub-hex-number-2
 sub-hex-number-2 c = search needs
@@ -75,14 +71,14 @@ word-spec =
     tie.close
     (tie.spec
     returns
-    mul-at
+    mul-first
     sub-if2
     sub-hex-number
     part-hex-number-start
     part-hex-number-end
     hex-number-requires
     returns-2
-    add-stop
+    add-behind
     sub-hex-number-2
     part-hex-number-start-2
     part-hex-number-end-2

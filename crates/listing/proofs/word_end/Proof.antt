@@ -5,8 +5,6 @@ use borrow.Author.Tests.{lt-ltb, le-ltb, eq-eqb, ne-eqb}
 use Rattle.listing.specs.Text.{opensFrame, endOf}
 use Rattle.listing.proofs.word_end.Statement.{statement}
 use Rattle.listing.proofs.word_end.Tie as tie
-use Rattle.listing.proofs.word_end.Reads as reads
-use Rattle.listing.proofs.word_end.Lts as lts
 
 returns : tie.Need-returns
 unfolding opensFrame endOf

@@ -1,6 +1,6 @@
 -- `listing::write` meets its contract: the text of the words so far stands over what was there. Assumes nothing.
 use Prim.Native.Nat.{_+_, _-_, _*_, _≤_}
-use mathlib.Core.Path.{_≡_, refl, sym, ap, _∙_}
+use mathlib.Core.Path.{_≡_, refl, ap, _∙_}
 use native.Mathlib.Omega.{arith}
 use borrow.Author.Needs.{needs}
 use borrow.Author.Tests.{lt-ltb, le-ltb}
@@ -14,10 +14,6 @@ use Rattle.listing.specs.Text.{textFrom, textOf}
 use Rattle.listing.proofs.TextLaws.{text-length, text-written}
 use Rattle.listing.proofs.write.Statement.{statement}
 use Rattle.listing.proofs.write.Tie as tie
-use Rattle.listing.proofs.write.Reads as reads
-use Rattle.listing.proofs.write.Lts as lts
-use Rattle.base.proofs.write_digits.Reads as write-digits-reads
-use Rattle.listing.proofs.word_end.Reads as word-end-reads
 
 abbrev Inv-loop : tie.InvT-loop
 Inv-loop words out₀ k₀ out k = (k ≤ length words) × (9 * length words ≤ length out₀) × (length out ≡ length out₀) × (out ≡ over out₀ (textOf (take k words)))
