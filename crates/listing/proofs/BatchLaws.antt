@@ -6,14 +6,15 @@ use mathlib.Core.Bool.{Bool, true, false, cond, _&&_}
 use mathlib.Core.Logic.{⊎-elim}
 use native.Mathlib.Nat.{eq-or-lt-of-le}
 use native.Mathlib.Omega.{arith}
-use borrow.Author.Tests.{eq-eqb, ne-eqb, eqb-true, eqb-false, lt-ltb, le-ltb}
+use borrow.Author.Tests.{eq-eqb, ne-eqb, eqb-true, eqb-false, lt-ltb, le-ltb, ltb-true, ltb-false}
 use lib.Dec.{eqb, ltb}
 use lib.ListN.{length, drop, length-drop}
 use lib.Seq.{drop-drop}
 use Rattle.base.specs.Lines.{Lines, behind, line, split, lineAt}
-use Rattle.base.proofs.Bools.{either, and-true}
+use Rattle.base.proofs.Bools.{either, and-true, and-false}
 use Rattle.base.proofs.LinesLaws.{none-left}
 use Rattle.listing.specs.Listing.{hasTwo, framesIn, preambleOf, skip, isDue, isWhole, batches, listingOf}
+use Rattle.listing.specs.Formed.{Limits}
 use Rattle.listing.specs.Scan.{lineFrom, lineBytes}
 use Rattle.listing.specs.declared.Fault.{Fault}
 use Rattle.listing.specs.declared.Fault.the-variants.{Malformed, TooMany}
@@ -136,7 +137,7 @@ whole-none q e = rw e
 
 pub whole-part : (q : ℕ) → (q % 9 ≡ 0 → ⊥) → isWhole q ≡ false
 unfolding isWhole
-whole-part q e = rw (ne-eqb (q % 9) 0 e) (Rattle.base.proofs.Bools.and-false (ltb 0 q))
+whole-part q e = rw (ne-eqb (q % 9) 0 e) (and-false (ltb 0 q))
 
 -- ---- a well-formed listing
 
@@ -160,32 +161,40 @@ module _ (p q p' b : ℕ) where
       (due .0, eqb-false q 2700 (few .0), few .1)
 
   -- it ends behind whole batches
-  pub end-formed : (t : List ℕ) → batches p q (behind t) ≡ WellFormed p' b → (q ≡ 9 * b) × (p ≡ p')
+  pub end-formed : (t : List ℕ) → batches p q (behind t) ≡ WellFormed p' b → (p ≡ p') × (q ≡ 9 * b) × (1 ≤ b)
   unfolding batches isWhole
   end-formed t e =
       let ends = formed-yes p' b (eqb (length t) 0 && isWhole q) _ _ e in
       let whole = and-true (ltb 0 q) (eqb (q % 9) 0) (and-true (eqb (length t) 0) (isWhole q) (ends .0) .1) in
+      let some = ltb-true 0 q (whole .0) in
       let right = eqb-true (q % 9) 0 (whole .1) in
       let count : q / 9 ≡ b = cc (ends .1) in
-      (omega arith, cc (ends .1))
+      (cc (ends .1), omega arith, omega arith)
 
 pub below-limit : (q : ℕ) → q ≤ 2700 → (q ≡ 2700 → ⊥) → q + 1 ≤ 2700
 below-limit q h few = ⊎-elim (λ e. absurd (few e)) (λ (l : q < 2700). omega arith) (eq-or-lt-of-le h)
 
--- its numbers are those of the lines, and small
-pub batches-formed : (p q p' b : ℕ) (ls : Lines) → q ≤ 2700 → batches p q ls ≡ WellFormed p' b → (p ≡ p') × (q ≤ 9 * b) × (b ≤ 300)
-batches-formed p q p' b (behind t) h e = let f = end-formed p q p' b t e in (f .1, omega arith, omega arith)
+-- its numbers are those of the lines
+pub batches-formed : (p q p' b : ℕ) (ls : Lines) → q ≤ 2700 → batches p q ls ≡ WellFormed p' b → (p ≡ p') × (q ≤ 9 * b) × (1 ≤ b) × (b ≤ 300)
+batches-formed p q p' b (behind t) h e = let f = end-formed p q p' b t e in (f .0, omega arith, f .2, omega arith)
 batches-formed p q p' b (line l ls) h e =
     let f = line-formed p q p' b l ls e in
     let rest = batches-formed p (q + 1) p' b ls (below-limit q h (f .1)) (f .2) in
-    (rest .0, omega arith, rest .2)
+    (rest .0, omega arith, rest .2, rest .3)
 
-pub listing-formed : (s : List ℕ) (p b : ℕ) → listingOf s ≡ WellFormed p b → (p ≤ 36) × (b ≤ 300) × (skip p (split s) ≡ split (drop (18 * p) s)) × (batches p 0 (split (drop (18 * p) s)) ≡ WellFormed p b)
+-- they are within the limits, and the batches' lines start behind the preamble's
+pub listing-formed : (s : List ℕ) (p b : ℕ) → listingOf s ≡ WellFormed p b
+    → Limits p b × (skip p (split s) ≡ split (drop (18 * p) s)) × (batches p 0 (split (drop (18 * p) s)) ≡ WellFormed p b)
 unfolding listingOf
 listing-formed s p b e =
     let n = preambleOf (split s) in
     let f = formed-no p b (ltb n 9) _ _ e in
     let rest = batches-formed n 0 p b (skip n (split s)) (omega arith) (f .1) in
-    let cut = frames-skip n 36 s (omega arith) .0 in
     let same = rest .0 in
-    (rw (← same) (frames-le 36 (split s)), rest .2, rw (← same) cut, rw (← same) (ap (batches n 0) (sym cut) ∙ f .1 ∙ ap (λ m. WellFormed m b) (sym same)))
+    let cut = frames-skip n 36 s (omega arith) .0 in
+    let all = frames-le 36 (split s) in
+    let nine = ltb-false n 9 (f .0) in (
+      record { long = omega arith; short = omega arith; some = rest .2; few = rest .3 },
+      rw (← same) cut,
+      rw (← same) (ap (batches n 0) (sym cut) ∙ f .1 ∙ ap (λ m. WellFormed m b) (sym same)),
+    )

@@ -7,15 +7,16 @@ use mathlib.Core.Logic.{⊎-elim}
 use native.Mathlib.Omega.{arith}
 use borrow.Author.Tests.{eqb-true, eqb-false, lt-ltb, le-ltb}
 use lib.Dec.{eqb}
-use lib.ListN.{length, take, drop}
+use lib.ListN.{length, getD, take, drop}
 use lib.Seq.{take-take, drop-drop, length-take-le}
 use Rattle.base.specs.Lines.{Lines, behind, line, split, lineAt}
 use Rattle.base.specs.Lists.{over, tab}
 use Rattle.base.proofs.Bools.{either}
-use Rattle.base.proofs.ListLaws.{tab-same}
+use Rattle.base.proofs.ListLaws.{tab-length, tab-at, tab-same}
 use Rattle.listing.specs.Listing.{hasOne, hasTwo, isDue, batches, listingOf}
-use Rattle.listing.specs.Words.{lineWords, wordsIn, wordAt}
-use Rattle.listing.specs.Scan.{wordsFrom, ByIndex}
+use Rattle.listing.specs.Words.{lineWords, wordsIn, wordsOf, wordAt}
+use Rattle.listing.specs.Formed.{Formed}
+use Rattle.listing.specs.Scan.{wordsFrom}
 use Rattle.listing.specs.Answers.{readingOf, wordsRead, afterRead}
 use Rattle.listing.specs.declared.Fault.{Fault}
 use Rattle.listing.specs.declared.Fault.the-variants.{ShortBuffer}
@@ -96,11 +97,21 @@ module _ (s : List ℕ) (p b : ℕ) where
       (either (eqb (q % 9) 0))
 
 -- the batches' words stand behind the two of each preamble line
-pub words-indexed : ByIndex
+pub words-indexed : (s : List ℕ) (p b : ℕ) → listingOf s ≡ WellFormed p b → wordsOf s ≡ wordsFrom s (2 * p) (17 * b)
 words-indexed s p b e =
     let f = listing-formed s p b e in
     let z : 9 * (2 * p) ≡ 18 * p = omega arith in
-    rw (e, f .2) (indexed s p b (split (drop (18 * p) s)) 0 (2 * p) (17 * b) (rw z) (f .3) (omega arith) (omega arith) refl)
+    rw (e, f .1) (indexed s p b (split (drop (18 * p) s)) 0 (2 * p) (17 * b) (rw z) (f .2) (omega arith) (omega arith) refl)
+
+pub formed : (s : List ℕ) (p b : ℕ) → listingOf s ≡ WellFormed p b → Formed s p b
+formed s p b e =
+    let words = words-indexed s p b e in
+    let word : ℕ → ℕ = λ i. wordAt s (2 * p + i) in
+    record {
+      limits = listing-formed s p b e .0;
+      count = ap length words ∙ tab-length word (17 * b);
+      each = λ k h. sym (ap (λ (ws : List ℕ). getD ws k 0) words ∙ tab-at word (17 * b) k 0 h);
+    }
 
 -- ---- the answers of reading
 

@@ -2,5 +2,6 @@ pub mod Text
 pub mod Listing
 pub mod Words
 pub mod Answers
+pub mod Formed
 pub mod ReadBack
 pub mod Scan

