@@ -5,3 +5,4 @@ pub mod Filling
 pub mod Begun
 pub mod Written
 pub mod Planned
+pub mod Plan
