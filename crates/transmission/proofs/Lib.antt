@@ -6,3 +6,4 @@ pub mod Begun
 pub mod Written
 pub mod Planned
 pub mod Plan
+pub mod ReportLaws
