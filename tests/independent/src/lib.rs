@@ -1,0 +1,74 @@
+//! Document 01 in plain Rust, written from the document alone: the yardstick that the proved library is compared with, and the
+//! baseline of the benchmarks. It shares no line with the library and has no proofs.
+
+pub mod codeword;
+pub mod job;
+pub mod listing;
+pub mod placement;
+pub mod program;
+pub mod reader;
+pub mod send;
+pub mod text;
+
+/// Why work is declined: a number of document 01's table, and the place that goes with it.
+#[derive(Clone, Copy, Debug, PartialEq, Eq)]
+pub struct Refusal {
+    pub number: u32,
+    pub place: usize,
+}
+
+impl Refusal {
+    pub fn new(number: u32, place: usize) -> Self {
+        Refusal { number, place }
+    }
+}
+
+/// The answer does not fit where it is to go.
+pub(crate) const TOO_SHORT: Refusal = Refusal { number: 10, place: 0 };
+
+/// The value of an upper-case hexadecimal digit.
+pub(crate) fn digit_value(byte: u8) -> Option<u32> {
+    match DIGIT_VALUES[byte as usize] {
+        NO_DIGIT => None,
+        value => Some(value as u32),
+    }
+}
+
+/// The number that upper-case hexadecimal digits spell; at most eight of them.
+pub(crate) fn number(digits: &[u8]) -> Option<u32> {
+    let mut value = 0;
+    for &byte in digits {
+        value = value << 4 | digit_value(byte)?;
+    }
+    Some(value)
+}
+
+pub(crate) const DIGITS: &[u8; 16] = b"0123456789ABCDEF";
+
+const NO_DIGIT: u8 = 0xFF;
+
+static DIGIT_VALUES: [u8; 256] = {
+    let mut values = [NO_DIGIT; 256];
+    let mut value = 0;
+    while value < 16 {
+        values[DIGITS[value] as usize] = value as u8;
+        value += 1;
+    }
+    values
+};
+
+#[cfg(test)]
+mod tests {
+    use super::*;
+
+    #[test]
+    fn digits() {
+        assert_eq!(number(b"1FFFFF"), Some(0x1F_FFFF));
+        assert_eq!(number(b"7CD215D8"), Some(0x7CD2_15D8));
+        assert_eq!(number(b"FFFFFFFF"), Some(u32::MAX));
+        for byte in 0..=255u8 {
+            let expected = (byte.is_ascii_digit() || (b'A'..=b'F').contains(&byte)).then(|| (byte as char).to_digit(16).unwrap());
+            assert_eq!(digit_value(byte), expected, "byte {byte:02X}");
+        }
+    }
+}

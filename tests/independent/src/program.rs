@@ -1,0 +1,70 @@
+//! The two programs: what each prints for its standard input.
+
+use crate::listing::{self, BYTES_A_WORD};
+use crate::reader;
+use crate::send::Accepted;
+use crate::Refusal;
+
+pub const MOST_INPUT: usize = 65_536;
+
+/// What the sending program prints for a job.
+pub fn sending(input: &[u8]) -> Vec<u8> {
+    answer(input, |job| {
+        let words = Accepted::new(job)?.words();
+        let mut out = vec![0; BYTES_A_WORD * words.len()];
+        listing::write(&words, &mut out);
+        Ok(out)
+    })
+}
+
+/// What the reading program prints for a listing.
+pub fn reading(input: &[u8]) -> Vec<u8> {
+    answer(input, |listing| Ok(reader::log_of_listing(listing)?.lines))
+}
+
+fn answer(input: &[u8], work: fn(&[u8]) -> Result<Vec<u8>, Refusal>) -> Vec<u8> {
+    let result = if input.len() > MOST_INPUT { Err(Refusal::new(24, 0)) } else { work(input) };
+    result.unwrap_or_else(|Refusal { number, place }| format!("refused {number} place {place}\n").into_bytes())
+}
+
+#[cfg(test)]
+mod tests {
+    use super::*;
+
+    #[test]
+    fn the_example() {
+        let job = b"000009 4 3132\n";
+        let idle = "7A89C197 7A89C197\n";
+        let expected = "AAAAAAAA AAAAAAAA\n".repeat(9) + "7CD215D8\n" + idle + "000026EC C2199DEA\n" + &idle.repeat(6);
+        let listing = sending(job);
+        assert_eq!(String::from_utf8(listing.clone()).unwrap(), expected);
+        assert_eq!(expected.lines().count(), 18);
+        assert_eq!(reading(&listing), job);
+    }
+
+    #[test]
+    fn page_lines_in_slot_order() {
+        let listing = sending(b"000006 1\n000000 0\n000003 4 31\n");
+        assert_eq!(reading(&listing), b"000000 0\n000003 4 31\n000006 1\n");
+    }
+
+    #[test]
+    fn refusals() {
+        assert_eq!(sending(b""), b"refused 9 place 0\n");
+        assert_eq!(sending(b"000009 4 3132"), b"refused 1 place 1\n");
+        assert_eq!(sending(b"000009 0\n1EA270 0\n"), b"refused 3 place 2\n");
+        assert_eq!(reading(b""), b"refused 21 place 1\n");
+        let listing = sending(b"000009 0\n");
+        let bad_sync = String::from_utf8(listing).unwrap().replace("7CD215D8", "7CD215DF");
+        assert_eq!(reading(bad_sync.as_bytes()), b"refused 22 place 1\n");
+    }
+
+    #[test]
+    fn long_inputs() {
+        let most = [b'x'; MOST_INPUT + 1];
+        for program in [sending, reading] {
+            assert_ne!(program(&most[1..]), b"refused 24 place 0\n");
+            assert_eq!(program(&most), b"refused 24 place 0\n");
+        }
+    }
+}
