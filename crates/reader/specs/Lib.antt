@@ -2,3 +2,4 @@ pub mod Meaning
 pub mod Reading
 pub mod Lines
 pub mod Answers
+pub mod Symbols

@@ -1,4 +1,15 @@
 // Words or a listing to page lines and a report (document 01, "Listings and reading").
+ghost use mathlib.Core.Path.{_≡_};
+ghost use Prim.Native.Nat.{ℕ, _+_, _*_, _/_, _≤_, _<_};
+ghost use lib.ListN.{length, getD};
+ghost use Rattle.codeword.specs.Nearest.{nearest};
+ghost use Rattle.codeword.specs.Table.{WrongBitsTable};
+ghost use Rattle.reader.specs.Meaning.{codewordMeaning, meaning, isSync};
+ghost use Rattle.reader.specs.Reading.{slotWord};
+ghost use Rattle.reader.specs.Answers.{firstUnsynced};
+ghost use Rattle.reader.specs.Symbols.{said};
+use codeword::Codeword;
+use codeword::Correction;
 
 // What a received word says.
 pub enum Meaning {
@@ -33,4 +44,87 @@ pub enum Reading {
         bytes: usize,
     },
     Declined(Fault),
+}
+
+// What is kept of a reading before a slot.
+struct Progress {
+    // One more than the slot of the open page's address; 0 where no page is open.
+    open: usize,
+    // The closed pages, the lost words, the orphans.
+    pages: u32,
+    lost: u32,
+    orphans: u32,
+    // How many bytes the lines of the closed pages take.
+    bytes: usize,
+}
+
+// The symbol of a lost word. Any other word's symbol is the 21 information bits of its codeword.
+const LOST: u32 = 0x20_0000;
+
+// A codeword's symbol.
+fn symbol(c: Codeword) -> u32
+    ensures { λ r. ⌜ said r ≡ codewordMeaning (c .0) ⌝ }
+{
+    let bits = c.word() / 2048;
+    if 0x10_0000 <= bits {
+        return bits;
+    }
+    if c.is_idle() {
+        return bits;
+    }
+    if job::is_reserved(bits / 4 * 8) {
+        return LOST;
+    }
+    bits
+}
+
+// A received word's symbol, once corrected.
+fn read_word(table: &[u16; 1024], word: u32) -> u32
+    requires { ⌜ WrongBitsTable (now table) ⌝ }
+    ensures { λ r. ⌜ said r ≡ meaning (nearest word) ⌝ }
+{
+    let Correction::Corrected(c) = codeword::correct_by(table, word) else {
+        return LOST;
+    };
+    symbol(c)
+}
+
+// Whether a word corrects to sync.
+fn is_sync(table: &[u16; 1024], word: u32) -> bool
+    requires { ⌜ WrongBitsTable (now table) ⌝ }
+    ensures { λ r. ⌜ r ≡ isSync (nearest word) ⌝ }
+{
+    let Correction::Corrected(c) = codeword::correct_by(table, word) else {
+        return false;
+    };
+    c.is_sync()
+}
+
+// The first batch, from 0, whose first word does not correct to sync, or the number of batches.
+fn first_unsynced(table: &[u16; 1024], words: &[u32]) -> usize
+    requires { ⌜ WrongBitsTable (now table) ⌝ }
+    ensures { λ r. ⌜ r ≡ firstUnsynced (now (words .entry)) ⌝ }
+{
+    let batches = words.len() / 17;
+    let mut q = 0;
+    while q < batches {
+        if !is_sync(table, words[17 * q]) {
+            return q;
+        }
+        q += 1;
+    }
+    q
+}
+
+// The symbols of the slots of whole batches.
+fn read_slots(table: &[u16; 1024], words: &[u32], symbols: &mut [u32])
+    requires { ⌜ WrongBitsTable (now table) ⌝ }
+    requires { ⌜ length (now symbols) ≤ 16 * (length (now words) / 17) ⌝ }
+    ensures { λ _. ⌜ ((s : ℕ) → s < length (now (symbols .entry)) → said (getD (now (symbols .exit)) s 0) ≡ meaning (nearest (slotWord (now (words .entry)) s))) ⌝ }
+{
+    let mut s = 0;
+    while s < symbols.len() {
+        symbols[s] = read_word(table, words[17 * (s / 16) + 1 + s % 16]);
+        s += 1;
+    }
 }

@@ -1,0 +1,38 @@
+-- `reader::read_word` meets its contract: a refused word leaves at once as lost. Assumes nothing.
+use mathlib.Core.Path.{sym, ap, _∙_}
+use borrow.Author.Needs.{needs}
+use Rattle.codeword.specs.Nearest.{nearest}
+use Rattle.codeword.proofs.AnswerLaws.{answer-corrected, answer-refused}
+use Rattle.reader.specs.Meaning.{meaning}
+use Rattle.reader.proofs.SymbolLaws.{lost-said}
+use Rattle.reader.proofs.read_word.Statement.{statement}
+use Rattle.reader.proofs.read_word.Tie as tie
+
+correct-by-requires : tie.Need-correct-by-requires
+correct-by-requires c κs = search needs
+
+enum-known-c : tie.Need-enum-known-c
+enum-known-c c = search needs
+
+enum-told : tie.Need-enum-told
+enum-told c = search needs
+
+returns : tie.Need-returns
+returns c =
+    let s = c .before .before .before in
+    lost-said
+    ∙ sym (ap meaning (answer-refused (nearest (s .args .word)) (sym (c .enum-told .given .1) ∙ c .before .before .correct-by .ensures (s .pre))))
+
+symbol-requires : tie.Need-symbol-requires
+symbol-requires c κs = search needs
+
+returns-2 : tie.Need-returns-2
+returns-2 c =
+    let s = c .before .before .before .before .before in
+    c .symbol .ensures
+    ∙ sym (ap meaning (answer-corrected (nearest (s .args .word)) _ (sym (c .before .before .c .given .1) ∙ c .before .before .before .before .correct-by .ensures (s .pre))))
+
+pub read-word-spec : {M : Type 1} → statement M
+read-word-spec =
+    tie.close
+    (tie.spec correct-by-requires enum-known-c enum-told returns symbol-requires returns-2)

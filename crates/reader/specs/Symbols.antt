@@ -1,0 +1,36 @@
+-- How the code keeps what a slot's word says: in one number, its symbol. No public promise needs this.
+use mathlib.Core.Bool.{Bool, false, cond}
+use mathlib.Core.List.{List, map}
+use Prim.Native.Nat.{ℕ, zero, suc, _+_, _-_, _*_, _/_, _%_, _^_}
+use lib.Dec.{eqb, ltb}
+use lib.ListN.{getD, take, drop}
+use Rattle.codeword.specs.Code.{idle}
+use Rattle.placement.specs.Placement.{frameOf}
+use Rattle.reader.specs.Reading.{Hearing, State, hear, silent}
+use Rattle.reader.specs.declared.Meaning.{Meaning}
+use Rattle.reader.specs.declared.Meaning.the-variants.{Lost, Idle, Address, Message}
+
+-- what a symbol says: it is the 21 information bits of the corrected word, or greater where the word is lost
+unfoldable pub said : ℕ → Meaning
+said x =
+    cond (ltb x (2 ^ 20))
+    (cond (eqb x (idle / 2048)) Idle (Address (x / 4 * 8) (x % 4)))
+    (cond (ltb x (2 ^ 21)) (Message (x % 2 ^ 20)) Lost)
+
+-- the state before slot s, by the slots' symbols
+unfoldable pub stateBy : List ℕ → ℕ → State
+stateBy symbols zero = silent
+stateBy symbols (suc s) = hear s (stateBy symbols s) (said (getD symbols s 0))
+
+-- the groups that message words with these symbols carry
+abbrev pub groupsSaid : List ℕ → List ℕ
+groupsSaid symbols = map (λ x. x % 2 ^ 20) symbols
+
+-- the page whose address is in slot a, and whose message words fill the slots from there to slot s
+abbrev pub pageIn : List ℕ → ℕ → ℕ → Hearing
+pageIn symbols a s = record {
+  identity = getD symbols a 0 / 4 * 8 + frameOf a;
+  function = getD symbols a 0 % 4;
+  groups = groupsSaid (take (s - (a + 1)) (drop (a + 1) symbols));
+  cut = false;
+}
