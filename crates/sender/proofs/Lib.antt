@@ -1,0 +1,12 @@
+pub mod Search
+pub mod Alike
+pub mod Ways
+pub mod Planned
+pub mod Held
+pub mod Iterated
+pub mod Elem
+pub mod Lies
+pub mod WordLaws
+pub mod Laid
+pub mod Begun
+pub mod Stepping

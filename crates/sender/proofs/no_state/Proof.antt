@@ -1,0 +1,12 @@
+-- `sender::no_state` meets its contract. Assumes nothing.
+use mathlib.Core.Path.{refl}
+use Rattle.sender.specs.Start.{noState}
+use Rattle.sender.proofs.no_state.Statement.{statement}
+use Rattle.sender.proofs.no_state.Tie as tie
+
+returns : tie.Need-returns
+unfolding noState
+returns c = refl
+
+pub no-state-spec : {M : Type 1} → statement M
+no-state-spec = tie.close (tie.spec returns)

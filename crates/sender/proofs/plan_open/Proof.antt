@@ -1,0 +1,69 @@
+-- `sender::plan_open` meets its contract. Assumes nothing.
+use Prim.Native.Nat.{ℕ, _≤_, _<_}
+use mathlib.Core.Path.{ap, sym, _∙_}
+use native.Mathlib.Omega.{arith}
+use lib.Dec.{ltb}
+use borrow.Author.Tests.{le-ltb}
+use Rattle.sender.proofs.Planned.{idle-ok, address-ok}
+use borrow.Author.Needs.{needs}
+use Rattle.sender.proofs.plan_open.Statement.{statement}
+use Rattle.sender.proofs.plan_open.Tie as tie
+
+find-page-requires : tie.Need-find-page-requires
+find-page-requires c κs = search needs
+
+add-n : tie.Need-add-n
+add-n c = search needs
+
+index-requires : tie.Need-index-requires
+index-requires c κs = search needs
+
+keep-requires : tie.Need-keep-requires
+keep-requires c κs = search needs
+
+returns : tie.Need-returns
+returns c =
+    let b = c .before .before .before .before .before in
+    let a = b .args in
+    idle-ok (a .t1) (a .sent) (a .c) (b .pre .1) (omega (arith, c .before .before .before .before .find-page .ensures, c .before .before .index .ensures)) (c .keep .ensures)
+
+cast-n : tie.Need-cast-n
+cast-n c = search needs
+
+mul-flag : tie.Need-mul-flag
+mul-flag c = search needs
+
+element-copy-out-flag : tie.Need-element-copy-out-flag
+element-copy-out-flag c = search needs
+
+flag-requires : tie.Need-flag-requires
+flag-requires c κs = search needs
+
+mul-t8 : tie.Need-mul-t8
+mul-t8 c = search needs
+
+element-copy-out-t9 : tie.Need-element-copy-out-t9
+element-copy-out-t9 c = search needs
+
+returns-2 : tie.Need-returns-2
+returns-2 c =
+    let b = c .before .before .before .before .before .before .before in
+    let a = b .args in
+    address-ok (a .t1) (a .sent) (a .c) (b .pre .1) (b .pre .0 .0) (c .before .before .before .before .before .before .find-page .result) (c .before .flag .result) (c .before .before .before .before .before .before .find-page .ensures) (omega (arith, c .before .before .before .before .index .ensures)) (c .before .flag .ensures)
+
+pub plan-open-spec : {M : Type 1} → statement M
+plan-open-spec =
+    tie.close
+    (tie.spec
+    find-page-requires
+    add-n
+    index-requires
+    keep-requires
+    returns
+    cast-n
+    mul-flag
+    element-copy-out-flag
+    flag-requires
+    mul-t8
+    element-copy-out-t9
+    returns-2)

@@ -1,0 +1,5 @@
+pub mod Answer
+pub mod Step
+pub mod Plan
+pub mod Start
+pub mod Stepping

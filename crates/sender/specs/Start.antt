@@ -1,0 +1,73 @@
+-- The state that an accepted job gives (document 01, "The steps start from the state that an accepted job gives").
+use Prim.Native.Nat.{ℕ}
+use mathlib.Core.List.{List, [], _∷_, _++_, map}
+use lib.ListN.{length, take, replicate}
+use Rattle.base.specs.Lists.{tab, padded}
+use Rattle.codeword.specs.Code.{codeword, addressBits, messageBits}
+use Rattle.job.specs.Job.{jobOf}
+use Rattle.job.specs.declared.JobAnswer.{JobAnswer}
+use Rattle.job.specs.declared.JobAnswer.the-variants as job-answer
+use Rattle.transmission.specs.Sending.{Sending, sendingsOf, framesOf, countsOf}
+use Rattle.sender.specs.declared.Cursor.{Cursor}
+use Rattle.sender.specs.declared.PageTable.{PageTable}
+use Rattle.sender.specs.declared.Sender.{Sender}
+use Rattle.sender.specs.declared.Started.{Started}
+use Rattle.sender.specs.Step.{stateFrom}
+
+-- a sending's address codeword
+abbrev pub addressOf : Sending → ℕ
+addressOf x = codeword (addressBits (x .identity) (x .function))
+
+-- and its message codewords
+abbrev pub messageOf : Sending → List ℕ
+messageOf x = map (λ (g : ℕ). codeword (messageBits g)) (x .groups)
+
+-- the message codewords of all sendings, page after page
+unfoldable pub wordsOf : List Sending → List ℕ
+wordsOf [] = []
+wordsOf (x ∷ xs) = messageOf x ++ wordsOf xs
+
+-- where those of page i start: behind those of the pages before it
+unfoldable pub startAt : List Sending → ℕ → ℕ
+startAt xs i = length (wordsOf (take i xs))
+
+-- the table of the pages
+unfoldable pub pagesFrom : List Sending → PageTable
+pagesFrom xs =
+    record {
+      count = length xs;
+      addresses = padded 48 (map addressOf xs);
+      starts = padded 48 (tab (startAt xs) (length xs));
+      lengths = padded 48 (countsOf xs);
+      frames = padded 48 (framesOf xs);
+    }
+
+-- before the first of the 18 words of the preamble
+abbrev pub atFirst : Cursor
+atFirst = record { slot = 0; page = 0; word = 0; preamble = 18; synced = 0; running = 0; message = 0 }
+
+-- the state before the first step: no page is sent
+abbrev pub begun : PageTable → List ℕ → Sender
+begun p words = stateFrom p (replicate 48 0) atFirst words
+
+-- the state that sendings give
+unfoldable pub startOf : List Sending → Sender
+startOf xs = begun (pagesFrom xs) (padded 4032 (wordsOf xs))
+
+-- the state that a refused job gives: all zeros, from which each step answers done
+unfoldable pub noState : Sender
+noState =
+    stateFrom
+    (record { count = 0; addresses = replicate 48 0; starts = replicate 48 0; lengths = replicate 48 0; frames = replicate 48 0 })
+    (replicate 48 0)
+    (record { slot = 0; page = 0; word = 0; preamble = 0; synced = 0; running = 0; message = 0 })
+    (replicate 4032 0)
+
+-- the state by a job's answer
+abbrev pub stateBy : JobAnswer → List Sending → Sender
+stateBy (job-answer.Accepted n) xs = startOf xs
+stateBy (job-answer.Refused why place) xs = noState
+
+-- what starting a job answers: numbers 1 to 9 as reading the job gives them, and the state
+unfoldable pub startedOf : List ℕ → Started
+startedOf s = record { answer = jobOf s; state = stateBy (jobOf s) (sendingsOf s) }

@@ -1,0 +1,548 @@
+// The sender: a job's words one at a time, from a state that the caller keeps (document 01, "Placement").
+ghost use mathlib.Core.Path.{_≡_};
+ghost use mathlib.Core.Bool.{false};
+ghost use Prim.Native.Nat.{_≤_};
+ghost use lib.Dec.{ltb};
+ghost use lib.ListN.{length};
+ghost use Rattle.base.specs.Hex.{bytesOf};
+ghost use Rattle.base.specs.Lists.{over, tab, padded};
+ghost use Rattle.base.specs.Search.{least};
+ghost use Rattle.codeword.specs.Code.{codeword, messageBits};
+ghost use Rattle.text.specs.Coding.{groupOf};
+ghost use Rattle.job.specs.Job.{jobOf, readingOf};
+ghost use Rattle.placement.specs.Placement.{mayStart, first, allOut};
+ghost use Rattle.transmission.specs.Sending.{sendingsOf};
+ghost use Rattle.sender.specs.Step.{flagOf, pageWrong, wrongAt, runWrong, declined, jobIn, viewOf, inSlot, syncDue, finished, inBatch, fromSound, stepOf};
+ghost use Rattle.sender.specs.Plan.{said, unmarked, PlanOk};
+ghost use Rattle.sender.specs.Start.{wordsOf, pagesFrom, begun, startOf, noState, startedOf};
+use codeword::Codeword;
+use job::JobAnswer;
+use text::Coding;
+
+// Where the transmission stands. A flag is set where it is not 0.
+#[repr(C)]
+pub struct Cursor {
+    // The next slot, counted through the batches, sync not counted.
+    pub slot: u32,
+    // The page sent last.
+    pub page: u32,
+    // The next of its message words, counted from 0, where its message is running.
+    pub word: u32,
+    // How many words of the preamble are still to come.
+    pub preamble: u8,
+    // Flag: the batch's sync is out and its first slot is not.
+    pub synced: u8,
+    // Flag: a message is running.
+    pub running: u8,
+    // Flag: the last slot held a message codeword.
+    pub message: u8,
+}
+
+// The pages of a job, which no step alters.
+#[repr(C)]
+pub struct PageTable {
+    // How many pages there are. What stands behind them is not examined.
+    pub count: u32,
+    // Each page's address codeword.
+    pub addresses: [u32; 48],
+    // Where its message words start, and how many it has.
+    pub starts: [u16; 48],
+    pub lengths: [u16; 48],
+    // The frame of its address.
+    pub frames: [u8; 48],
+}
+
+// The state: 16,628 bytes without padding, of which every pattern is a value.
+#[repr(C)]
+pub struct Sender {
+    pub cursor: Cursor,
+    pub pages: PageTable,
+    // Flags: the page is sent.
+    pub sent: [u8; 48],
+    // The message words of all pages.
+    pub words: [u32; 4032],
+}
+
+// What a step answers.
+pub enum Answer {
+    // The next word.
+    Word(u32),
+    // All words are out.
+    Done,
+    // The state is none of a sender: number 11.
+    Refused,
+}
+
+// A job's answer, and the state that it gives.
+pub struct Started {
+    pub answer: JobAnswer,
+    pub state: Sender,
+}
+
+// A step's answer and the state that it leaves.
+pub struct Stepped {
+    pub answer: Answer,
+    pub state: Sender,
+}
+
+// What a step puts out: the message word that its plan names, a fixed word, the end, or the refusal.
+enum Output {
+    Message,
+    Fixed(u32),
+    End,
+    Decline,
+}
+
+// What a step does: what it puts out, the message word to read, a page's flag to write, and the next cursor.
+struct Plan {
+    output: Output,
+    at: usize,
+    page: usize,
+    mark: u8,
+    cursor: Cursor,
+}
+
+// ---- numbers and flags
+
+fn wide8(x: u8) -> u32
+    ensures { λ r. ⌜ r ≡ x ⌝ }
+{
+    x as u32
+}
+
+fn wide16(x: u16) -> u32
+    ensures { λ r. ⌜ r ≡ x ⌝ }
+{
+    x as u32
+}
+
+fn index(x: u32) -> usize
+    ensures { λ r. ⌜ r ≡ x ⌝ }
+{
+    x as usize
+}
+
+fn flag(b: bool) -> u8
+    ensures { λ r. ⌜ r ≡ flagOf b ⌝ }
+{
+    if b { 1 } else { 0 }
+}
+
+// ---- number 11
+
+// Whether a page's frame is over 7, or its message words end beyond 4,032.
+fn page_wrong(frame: u8, start: u16, count: u16) -> bool
+    ensures { λ r. ⌜ r ≡ pageWrong frame start count ⌝ }
+{
+    if 7 < frame {
+        return true;
+    }
+    4032 < wide16(start) + wide16(count)
+}
+
+// Whether one of the pages is wrong.
+fn pages_wrong(p: PageTable) -> bool
+    requires { ⌜ p .count ≤ 48 ⌝ }
+    ensures { λ r. ⌜ r ≡ ltb (least (wrongAt p) (p .count)) (p .count) ⌝ }
+{
+    let n = index(p.count);
+    let mut i: usize = 0;
+    while i < n {
+        if page_wrong(p.frames[i], p.starts[i], p.lengths[i]) {
+            return true;
+        }
+        i += 1;
+    }
+    false
+}
+
+// Whether the running page is not counted, or does not have the running word.
+fn run_wrong(p: PageTable, c: Cursor) -> bool
+    requires { ⌜ p .count ≤ 48 ⌝ }
+    ensures { λ r. ⌜ r ≡ runWrong p c ⌝ }
+{
+    if c.running == 0 {
+        return false;
+    }
+    if p.count <= c.page {
+        return true;
+    }
+    let k = index(c.page);
+    wide16(p.lengths[k]) <= c.word
+}
+
+// Whether a step is declined.
+fn is_declined(p: PageTable, c: Cursor) -> bool
+    ensures { λ r. ⌜ r ≡ declined p c ⌝ }
+{
+    if 48 < p.count {
+        return true;
+    }
+    if pages_wrong(p) {
+        return true;
+    }
+    if run_wrong(p, c) {
+        return true;
+    }
+    4800 < c.slot
+}
+
+// ---- the searches
+
+// Whether a page with this flag and this frame may start in the slot.
+fn may_start(sent: u8, frame: u8, slot: u32) -> bool
+    ensures { λ r. ⌜ r ≡ mayStart sent frame slot ⌝ }
+{
+    if sent != 0 {
+        return false;
+    }
+    wide8(frame) == slot % 16 / 2
+}
+
+// The first page that may start in the slot, or the number of pages.
+fn find_page(p: PageTable, sent: [u8; 48], c: Cursor) -> usize
+    requires { ⌜ p .count ≤ 48 ⌝ }
+    ensures { λ r. ⌜ r ≡ first (jobIn p) (c .slot) (viewOf p sent c) ⌝ }
+{
+    let n = index(p.count);
+    let slot = c.slot;
+    let mut i: usize = 0;
+    while i < n {
+        if may_start(sent[i], p.frames[i], slot) {
+            break;
+        }
+        i += 1;
+    }
+    i
+}
+
+// Whether no message is running and no page is unsent.
+fn all_out(p: PageTable, sent: [u8; 48], c: Cursor) -> bool
+    requires { ⌜ declined p c ≡ false ⌝ }
+    ensures { λ r. ⌜ r ≡ allOut (jobIn p) (viewOf p sent c) ⌝ }
+{
+    if c.running != 0 {
+        return false;
+    }
+    let n = index(p.count);
+    let mut i: usize = 0;
+    while i < n {
+        if sent[i] == 0 {
+            return false;
+        }
+        i += 1;
+    }
+    true
+}
+
+// ---- the plan of a step
+
+// A plan that marks no page: the first page's flag is written as it was.
+fn keep(output: Output, at: usize, sent: [u8; 48], c: Cursor) -> Plan
+    ensures { λ r. ⌜ r ≡ unmarked output at sent c ⌝ }
+{
+    Plan {
+        output: output,
+        at: at,
+        page: 0,
+        mark: sent[0],
+        cursor: c,
+    }
+}
+
+// A slot in which no message is running: the address of the first page that may start, or idle.
+fn plan_open(p: PageTable, sent: [u8; 48], c: Cursor) -> Plan
+    requires { ⌜ (p .count ≤ 48) × (c .slot ≤ 4800) ⌝ }
+    requires { ⌜ c .running ≡ 0 ⌝ }
+    ensures { λ r. ⌜ PlanOk inSlot p sent c r ⌝ }
+{
+    let k = find_page(p, sent, c);
+    let mut n = c;
+    n.slot = c.slot + 1;
+    n.synced = 0;
+    n.message = 0;
+    if index(p.count) <= k {
+        return keep(Output::Fixed(0x7A89_C197), 0, sent, n);
+    }
+    n.page = k as u32;
+    n.word = 0;
+    n.running = flag(0 < p.lengths[k]);
+    Plan {
+        output: Output::Fixed(p.addresses[k]),
+        at: 0,
+        page: k,
+        mark: 1,
+        cursor: n,
+    }
+}
+
+// A slot: the running message's next codeword, or what an open slot holds.
+fn plan_slot(p: PageTable, sent: [u8; 48], c: Cursor) -> Plan
+    requires { ⌜ declined p c ≡ false ⌝ }
+    ensures { λ r. ⌜ PlanOk inSlot p sent c r ⌝ }
+{
+    if c.running == 0 {
+        return plan_open(p, sent, c);
+    }
+    let k = index(c.page);
+    let at = index(wide16(p.starts[k]) + c.word);
+    let mut n = c;
+    n.slot = c.slot + 1;
+    n.synced = 0;
+    n.word = c.word + 1;
+    n.running = flag(c.word + 1 < wide16(p.lengths[k]));
+    n.message = 1;
+    keep(Output::Message, at, sent, n)
+}
+
+// Whether sync comes next.
+fn sync_due(c: Cursor) -> bool
+    ensures { λ r. ⌜ r ≡ syncDue c ⌝ }
+{
+    if c.synced != 0 {
+        return false;
+    }
+    c.slot % 16 == 0
+}
+
+// Whether all is out and the last slot held no message codeword.
+fn is_finished(p: PageTable, sent: [u8; 48], c: Cursor) -> bool
+    requires { ⌜ declined p c ≡ false ⌝ }
+    ensures { λ r. ⌜ r ≡ finished p sent c ⌝ }
+{
+    if c.message != 0 {
+        return false;
+    }
+    all_out(p, sent, c)
+}
+
+// Before a batch the end or sync; then its slots.
+fn plan_batch(p: PageTable, sent: [u8; 48], c: Cursor) -> Plan
+    requires { ⌜ declined p c ≡ false ⌝ }
+    ensures { λ r. ⌜ PlanOk inBatch p sent c r ⌝ }
+{
+    if !sync_due(c) {
+        return plan_slot(p, sent, c);
+    }
+    if is_finished(p, sent, c) {
+        return keep(Output::End, 0, sent, c);
+    }
+    let mut n = c;
+    n.synced = 1;
+    keep(Output::Fixed(0x7CD2_15D8), 0, sent, n)
+}
+
+// The preamble; then the batches.
+fn plan_sound(p: PageTable, sent: [u8; 48], c: Cursor) -> Plan
+    requires { ⌜ declined p c ≡ false ⌝ }
+    ensures { λ r. ⌜ PlanOk fromSound p sent c r ⌝ }
+{
+    if c.preamble == 0 {
+        return plan_batch(p, sent, c);
+    }
+    let mut n = c;
+    n.preamble = c.preamble - 1;
+    keep(Output::Fixed(0xAAAA_AAAA), 0, sent, n)
+}
+
+// The plan of a step, for every state.
+fn plan_step(p: PageTable, sent: [u8; 48], c: Cursor) -> Plan
+    ensures { λ r. ⌜ PlanOk stepOf p sent c r ⌝ }
+{
+    if is_declined(p, c) {
+        return keep(Output::Decline, 0, sent, c);
+    }
+    plan_sound(p, sent, c)
+}
+
+// The answer, from the plan and the message word that it names.
+fn answer_with(output: Output, w: u32) -> Answer
+    ensures { λ r. ⌜ r ≡ said output w ⌝ }
+{
+    match output {
+        Output::Message => Answer::Word(w),
+        Output::Fixed(v) => Answer::Word(v),
+        Output::End => Answer::Done,
+        Output::Decline => Answer::Refused,
+    }
+}
+
+// ---- the step
+
+// One step of a state that is passed and returned.
+pub fn step_value(s: Sender) -> Stepped
+    ensures { λ r. ⌜ r ≡ stepOf s ⌝ }
+{
+    let p = s.pages;
+    let sent = s.sent;
+    let c = s.cursor;
+    let n = plan_step(p, sent, c);
+    let at = n.at;
+    let page = n.page;
+    let w = s.words[at];
+    let next = n.cursor;
+    let mark = n.mark;
+    let mut t = s;
+    t.sent[page] = mark;
+    t.cursor = next;
+    let output = n.output;
+    let a = answer_with(output, w);
+    Stepped {
+        answer: a,
+        state: t,
+    }
+}
+
+// One step of a state where the caller keeps it: one flag and the cursor are written, and one message word is read.
+pub fn step(s: &mut Sender) -> Answer
+    ensures { λ r. ⌜ (r ≡ stepOf (now (s .entry)) .answer) × (now (s .exit) ≡ stepOf (now (s .entry)) .state) ⌝ }
+{
+    let p = s.pages;
+    let sent = s.sent;
+    let c = s.cursor;
+    let n = plan_step(p, sent, c);
+    let at = n.at;
+    let page = n.page;
+    let w = s.words[at];
+    s.sent[page] = n.mark;
+    s.cursor = n.cursor;
+    answer_with(n.output, w)
+}
+
+// The step in place, of a state that is passed and returned: for callers that are proved without a reference to it.
+pub fn step_owned(s: Sender) -> Stepped
+    ensures { λ r. ⌜ r ≡ stepOf s ⌝ }
+{
+    let mut t = s;
+    let a = step(&mut t);
+    Stepped {
+        answer: a,
+        state: t,
+    }
+}
+
+// ---- the start
+
+// The message codewords of a text's first n groups, over the front of a slice.
+fn write_message(coding: Coding, text: &[u8], n: u16, out: &mut [u32])
+    requires { ⌜ n ≤ length (now out) ⌝ }
+    ensures { λ r. ⌜ now (out .exit) ≡ over (now (out .entry)) (tab (λ g. codeword (messageBits (groupOf coding (bytesOf (now (text .entry))) g))) n) ⌝ }
+{
+    let mut g: u16 = 0;
+    while g < n {
+        let i = g as usize;
+        out[i] = Codeword::message(text::group(coding, text, g)).word();
+        g += 1;
+    }
+}
+
+// The table of an accepted job's n pages; their message codewords go over the front of a slice.
+fn lay_out(job: &[u8], read: job::Pages, n: usize, words: &mut [u32]) -> PageTable
+    requires { ⌜ (read ≡ readingOf (now job)) × (jobOf (now job) ≡ JobAnswer.Accepted n) ⌝ }
+    requires { ⌜ length (now words) ≡ 4032 ⌝ }
+    ensures { λ r. ⌜ r ≡ pagesFrom (sendingsOf (now (job .entry))) ⌝ }
+    ensures { λ r. ⌜ now (words .exit) ≡ over (now (words .entry)) (wordsOf (sendingsOf (now (job .entry)))) ⌝ }
+{
+    let mut addresses = [0u32; 48];
+    let mut starts = [0u16; 48];
+    let mut lengths = [0u16; 48];
+    let mut frames = [0u8; 48];
+    let mut at: usize = 0;
+    let mut i: usize = 0;
+    while i < n {
+        let identity = read.identities[i];
+        let kind = read.kinds[i];
+        let count = read.counts[i];
+        let coding = job::coding(kind);
+        let groups = text::groups(coding, count as u16);
+        addresses[i] = Codeword::address(identity, job::function(kind)).word();
+        starts[i] = at as u16;
+        lengths[i] = groups as u16;
+        frames[i] = (identity % 8) as u8;
+        let text = job::page_text(job, read.starts[i], count);
+        write_message(coding, text, groups as u16, &mut words[at..]);
+        at += groups;
+        i += 1;
+    }
+    PageTable {
+        count: n as u32,
+        addresses: addresses,
+        starts: starts,
+        lengths: lengths,
+        frames: frames,
+    }
+}
+
+// The state before the first step.
+fn begin(pages: PageTable, words: [u32; 4032]) -> Sender
+    ensures { λ r. ⌜ r ≡ begun pages words ⌝ }
+{
+    Sender {
+        cursor: Cursor {
+            slot: 0,
+            page: 0,
+            word: 0,
+            preamble: 18,
+            synced: 0,
+            running: 0,
+            message: 0,
+        },
+        pages: pages,
+        sent: [0u8; 48],
+        words: words,
+    }
+}
+
+// The state that an accepted job's n pages give.
+fn state_of(job: &[u8], read: job::Pages, n: usize) -> Sender
+    requires { ⌜ (read ≡ readingOf (now job)) × (jobOf (now job) ≡ JobAnswer.Accepted n) ⌝ }
+    ensures { λ r. ⌜ r ≡ startOf (sendingsOf (now (job .entry))) ⌝ }
+{
+    let mut words = [0u32; 4032];
+    let pages = lay_out(job, read, n, &mut words);
+    begin(pages, words)
+}
+
+// The state that a refused job gives.
+fn no_state() -> Sender
+    ensures { λ r. ⌜ r ≡ noState ⌝ }
+{
+    Sender {
+        cursor: Cursor {
+            slot: 0,
+            page: 0,
+            word: 0,
+            preamble: 0,
+            synced: 0,
+            running: 0,
+            message: 0,
+        },
+        pages: PageTable {
+            count: 0,
+            addresses: [0u32; 48],
+            starts: [0u16; 48],
+            lengths: [0u16; 48],
+            frames: [0u8; 48],
+        },
+        sent: [0u8; 48],
+        words: [0u32; 4032],
+    }
+}
+
+// The answer to a job, and the state from which the steps give its words.
+pub fn start(job: &[u8]) -> Started
+    ensures { λ r. ⌜ r ≡ startedOf (now (job .entry)) ⌝ }
+{
+    let read = job::read_job(job);
+    let answer = read.answer;
+    match answer {
+        JobAnswer::Accepted(n) => Started {
+            answer: answer,
+            state: state_of(job, read, n),
+        },
+        JobAnswer::Refused { why: _, place: _ } => Started {
+            answer: answer,
+            state: no_state(),
+        },
+    }
+}
