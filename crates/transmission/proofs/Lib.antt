@@ -5,5 +5,5 @@ pub mod Filling
 pub mod Begun
 pub mod Written
 pub mod Planned
-pub mod Plan
+pub mod Prepared
 pub mod ReportLaws

@@ -11,11 +11,10 @@ use Rattle.job.specs.declared.JobAnswer.the-variants.{Accepted}
 use Rattle.job.specs.declared.Pages.{Pages}
 use Rattle.job.proofs.Accepted.{accepted-job}
 use Rattle.placement.specs.Placement.{slotOf}
-use Rattle.placement.proofs.Placed.{placed, limits}
 use Rattle.transmission.specs.Sending.{Sending, sendingFrom, sendingsOf, sendingAt, placementOf}
 use Rattle.transmission.specs.Transmitted.{slotIndex}
 use Rattle.transmission.specs.Writing.{Planned, withSending, withSendings}
-use Rattle.transmission.proofs.Sendings.{sending-at, words-at, pages-are, sendings-count, sendable, accepted-sendings}
+use Rattle.transmission.proofs.Sendings.{sending-at, words-at, pages-are, sendings-count, accepted-sendings, sendings-placed, sendings-limits}
 
 -- page i is sent as sending i
 pub page-sending : (s : List ℕ) (n : ℕ) → jobOf s ≡ Accepted n → (pages : Pages) → pages ≡ readingOf s → (i : ℕ) → i < n
@@ -39,9 +38,9 @@ module _ (s : List ℕ) (n : ℕ) (ok : jobOf s ≡ Accepted n) {groups places :
   inside : (slotOf (placementOf (sendingsOf s)) i < 4800) × (slotIndex (slotOf (placementOf (sendingsOf s)) i + getD groups i 0) < room)
   inside =
       let a = accepted-sendings s n ok in
-      let p = placed (placementOf (sendingsOf s)) (sendable a .framed) .inside i (omega (arith, listed, pages-are (sendingsOf s))) in
+      let p = sendings-placed a .inside i (omega (arith, listed, pages-are (sendingsOf s))) in
       let w : placementOf (sendingsOf s) .words i ≡ getD groups i 0 = words-at (sendingsOf s) i ∙ sym (plan .counted i listed) in
-      (limits (sendable a) .below _ (omega arith), omega (arith, plan .exact))
+      (sendings-limits a .below _ (omega arith), omega (arith, plan .exact))
 
   pub low : getD places i 0 < 4800
   low = rw (plan .placed i listed) (inside .0)
@@ -50,7 +49,7 @@ module _ (s : List ℕ) (n : ℕ) (ok : jobOf s ≡ Accepted n) {groups places :
   fits = rw (plan .placed i listed) (inside .1)
 
   -- one more page is written
-  pub page-more : (old : List ℕ) {x : Sending} {words : List ℕ} → x ≡ sendingAt (sendingsOf s) i → words ≡ withSendings (sendingsOf s) i old
-      → withSending x (getD places i 0) words ≡ withSendings (sendingsOf s) (i + 1) old
+  pub page-more : (old : List ℕ) {x : Sending} {words now : List ℕ} → x ≡ sendingAt (sendingsOf s) i → words ≡ withSendings (sendingsOf s) i old
+      → now ≡ withSending x (getD places i 0) words → now ≡ withSendings (sendingsOf s) (i + 1) old
   unfolding withSendings
-  page-more old p q = rw (p, q, plan .placed i listed, add-one i, withSendings)
+  page-more old p q e = e ∙ rw (p, q, plan .placed i listed, add-one i, withSendings)

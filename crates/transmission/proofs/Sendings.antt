@@ -16,6 +16,8 @@ use Rattle.job.specs.Accepted.{AcceptedJob}
 use Rattle.job.specs.declared.JobAnswer.the-variants.{Accepted}
 use Rattle.job.proofs.Accepted.{accepted-job}
 use Rattle.placement.specs.Placement.{Sendable}
+use Rattle.placement.specs.Promise.{Placed, Limits}
+use Rattle.placement.proofs.Placed.{placed, limits}
 use Rattle.transmission.specs.Sending.{Sending, noSending, sendingOf, sendingsOf, sendingAt, framesOf, countsOf, placementOf, Allowed, AllAllowed}
 
 -- ---- the sendings of any job, by index
@@ -63,6 +65,13 @@ module _ {xs : List Sending} (a : AllAllowed xs) where
         );
         paired = length-map xs (λ (x : Sending). length (x .groups)) ∙ sym (pages-are xs);
       }
+
+pub sendings-placed : {xs : List Sending} → AllAllowed xs → Placed (placementOf xs)
+sendings-placed {xs} a = placed (placementOf xs) (sendable a .framed)
+
+-- at most 300 batches, and slots below 4,800
+pub sendings-limits : {xs : List Sending} → AllAllowed xs → Limits (framesOf xs) (countsOf xs)
+sendings-limits a = limits (sendable a)
 
 -- ---- an accepted job's sendings are allowed
 

@@ -12,8 +12,7 @@ use Rattle.base.proofs.ListLaws.{tab-length, tab-at}
 use Rattle.base.proofs.SearchLaws.{le-or-lt}
 use Rattle.codeword.proofs.CorrectionTheorem.{correction-theorem}
 use Rattle.placement.specs.Placement.{Job, Content, idle, address, message, contentAt, batches}
-use Rattle.placement.specs.Promise.{Limits}
-use Rattle.placement.proofs.Placed.{limits, some-batch}
+use Rattle.placement.proofs.Placed.{some-batch}
 use Rattle.transmission.specs.Sending.{Sending, placementOf, AllAllowed}
 use Rattle.transmission.specs.Transmission.{Codewords, codewordsOf, codewordIn, preamble, batchWord, wordAt, wordCount, transmission, transmissionOf}
 use Rattle.transmission.specs.Transmitted.{slotIndex, slotWord}
@@ -74,10 +73,7 @@ module _ (xs : List Sending) where
       (λ h. rw (transmission-at (codewordsOf xs) (placementOf xs) k h) (word-fits k))
       (le-or-lt (wordCount (placementOf xs)) k)
 
--- ---- how many batches an accepted job's sendings take
+-- ---- an accepted job's sendings take a batch at least
 
 pub batches-least : {xs : List Sending} → AllAllowed xs → 1 ≤ batches (placementOf xs)
 batches-least {xs} a = some-batch (placementOf xs) (sendable a .framed)
-
-pub batches-most : {xs : List Sending} → AllAllowed xs → batches (placementOf xs) ≤ 298
-batches-most a = limits (sendable a) .most

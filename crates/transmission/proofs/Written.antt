@@ -21,38 +21,8 @@ use Rattle.transmission.specs.Transmission.{codewordsOf, codewordIn, pre
 use Rattle.transmission.specs.Transmitted.{slotIndex}
 use Rattle.transmission.specs.Writing.{blankAt, codewordAt, begun, withSending, withSendings}
 use Rattle.transmission.proofs.Sendings.{pages-are, words-at}
+use Rattle.transmission.proofs.Begun.{slot-index-inj, begun-length, begun-other, begun-at}
 use Rattle.transmission.proofs.TransmissionLaws.{word-in, slot-word, transmission-length, transmission-at}
-
--- ---- one sending
-
-slot-index-inj : (s t : ℕ) → slotIndex s ≡ slotIndex t → s ≡ t
-slot-index-inj s t e = omega arith
-
-module _ (x : Sending) (s : ℕ) (words : List ℕ) where
-  begun-length : (n : ℕ) → length (begun x s n words) ≡ length words
-  unfolding begun
-  begun-length zero = refl
-  begun-length (suc n) = length-set (begun x s n words) (slotIndex (s + n)) (codewordAt x n) ∙ begun-length n
-
-  -- a word that is no codeword's place is kept
-  begun-other : (n k : ℕ) → ((j : ℕ) → j < n → k ≡ slotIndex (s + j) → ⊥) → getD (begun x s n words) k 0 ≡ getD words k 0
-  unfolding begun
-  begun-other zero k f = refl
-  begun-other (suc n) k f =
-      getD-set-other (begun x s n words) (slotIndex (s + n)) k (codewordAt x n) 0 (f n (omega arith))
-      ∙ begun-other n k (λ j h. f j (omega arith))
-
-  -- codeword j is in its place
-  begun-at : (n j : ℕ) → j < n → slotIndex (s + j) < length words → getD (begun x s n words) (slotIndex (s + j)) 0 ≡ codewordAt x j
-  unfolding begun
-  begun-at zero j h l = absurd (omega arith)
-  begun-at (suc n) j h l =
-      ⊎-elim
-      (λ (e : j ≡ n). rw e (getD-set-same (begun x s n words) (slotIndex (s + n)) (codewordAt x n) 0 (rw (begun-length n, ← e) l)))
-      (λ (m : j < n).
-      getD-set-other (begun x s n words) (slotIndex (s + n)) (slotIndex (s + j)) (codewordAt x n) 0 (λ q. omega (arith, slot-index-inj (s + j) (s + n) q))
-      ∙ begun-at n j m l)
-      (eq-or-lt-of-le (le-of-suc-le-suc h))
 
 -- ---- all sendings
 

@@ -72,7 +72,7 @@ fn frames_of(identities: &[u32; 48]) -> [u8; 48]
 }
 
 // How many groups each text takes, by its kind and its number of characters.
-fn groups_of<'a>(kinds: &'a [u8; 48], counts: &'a [usize; 48]) -> [u32; 48]
+fn group_counts<'a>(kinds: &'a [u8; 48], counts: &'a [usize; 48]) -> [u32; 48]
     requires { ⌜ ((i : ℕ) → getD (now counts) i 0 ≤ 240) ⌝ }
     ensures { λ r. ⌜ r ≡ tab (λ i. groupsOf (codingOf (getD (now (kinds .entry)) i 0)) (getD (now (counts .entry)) i 0)) 48 ⌝ }
 {
@@ -189,7 +189,7 @@ fn send_pages(job: &[u8], pages: Pages, n: usize, words: &mut [u32], slots: &mut
     ensures { λ r. ⌜ now (slots .exit) ≡ over (now (slots .entry)) (slotsSent r (sendingsOf (now (job .entry)))) ⌝ }
 {
     let frames = frames_of(&pages.identities);
-    let groups = groups_of(&pages.kinds, &pages.counts);
+    let groups = group_counts(&pages.kinds, &pages.counts);
     let mut places = [0u32; 48];
     let batches = placement::place(&frames[..n], &groups[..n], &mut places);
     let count = 18 + 17 * batches;

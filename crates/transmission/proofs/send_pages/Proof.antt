@@ -5,7 +5,7 @@ use native.Mathlib.Omega.{arith}
 use Rattle.job.proofs.Accepted.{accepted-job}
 use lib.ListN.{length, take}
 use lib.Seq.{length-take-le}
-use Rattle.transmission.proofs.Plan.{Prepared, few-characters, frames-long, groups-long, front-sendable, prepared, few-batches, plan, short-words, short-slots, enough, words-over, slots-over}
+use Rattle.transmission.proofs.Prepared.{Prepared, few-characters, frames-long, groups-long, front-sendable, prepared, few-batches, plan, short-words, short-slots, enough, words-over, slots-over}
 use borrow.Author.Needs.{needs}
 use Rattle.transmission.proofs.send_pages.Statement.{statement}
 use Rattle.transmission.proofs.send_pages.Tie as tie
@@ -14,25 +14,25 @@ use Rattle.transmission.proofs.send_pages.Lts as lts
 use Rattle.placement.proofs.place.Reads as place-reads
 use Rattle.transmission.proofs.copy_front.Reads as copy-front-reads
 use Rattle.transmission.proofs.frames_of.Reads as frames-of-reads
-use Rattle.transmission.proofs.groups_of.Reads as groups-of-reads
+use Rattle.transmission.proofs.group_counts.Reads as group-counts-reads
 use Rattle.transmission.proofs.write_pages.Reads as write-pages-reads
 
 -- the two arrays hold all pages
-long-frames : (c : tie.After-groups-of) → c .before .before .before .before .before .before .before .before .before .before .args .n ≤ length (c .before .before .before .before .frames-of .result)
+long-frames : (c : tie.After-group-counts) → c .before .before .before .before .before .before .before .before .before .before .args .n ≤ length (c .before .before .before .before .frames-of .result)
 long-frames c =
     let from = c .before .before .before .before .before .before .before .before .before .before in
-    frames-long (from .args .job .now) (from .args .n) (from .pre .1) (from .args .t2) (from .pre .0) (c .before .before .before .before .frames-of .ensures) (c .groups-of .ensures)
+    frames-long (from .args .job .now) (from .args .n) (from .pre .1) (from .args .t2) (from .pre .0) (c .before .before .before .before .frames-of .ensures) (c .group-counts .ensures)
 
-long-groups : (c : tie.After-groups-of) → c .before .before .before .before .before .before .before .before .before .before .args .n ≤ length (c .groups-of .result)
+long-groups : (c : tie.After-group-counts) → c .before .before .before .before .before .before .before .before .before .before .args .n ≤ length (c .group-counts .result)
 long-groups c =
     let from = c .before .before .before .before .before .before .before .before .before .before in
-    groups-long (from .args .job .now) (from .args .n) (from .pre .1) (from .args .t2) (from .pre .0) (c .before .before .before .before .frames-of .ensures) (c .groups-of .ensures)
+    groups-long (from .args .job .now) (from .args .n) (from .pre .1) (from .args .t2) (from .pre .0) (c .before .before .before .before .frames-of .ensures) (c .group-counts .ensures)
 
 -- the pages are placed
-ready : (c : tie.After-place) → Prepared (c .before .before .before .before .before .before .before .before .before .before .before .before .before .before .args .job .now) (c .before .before .before .before .before .before .before .before .before .before .before .before .before .before .args .n) (c .before .before .before .before .groups-of .result) (c .place .last .1 .1 .0) (c .place .result)
+ready : (c : tie.After-place) → Prepared (c .before .before .before .before .before .before .before .before .before .before .before .before .before .before .args .job .now) (c .before .before .before .before .before .before .before .before .before .before .before .before .before .before .args .n) (c .before .before .before .before .group-counts .result) (c .place .last .1 .1 .0) (c .place .result)
 ready c =
     let from = c .before .before .before .before .before .before .before .before .before .before .before .before .before .before in
-    prepared (from .args .job .now) (from .args .n) (from .pre .1) (from .args .t2) (from .pre .0) (c .before .before .before .before .before .before .before .before .frames-of .ensures) (c .before .before .before .before .groups-of .ensures) (c .place .ensures .0) (c .place .ensures .1)
+    prepared (from .args .job .now) (from .args .n) (from .pre .1) (from .args .t2) (from .pre .0) (c .before .before .before .before .before .before .before .before .frames-of .ensures) (c .before .before .before .before .group-counts .ensures) (c .place .ensures .0) (c .place .ensures .1)
 
 -- the part of the words that is written
 sized : (c : tie.After-write-pages-arg) → 18 + 17 * c .before .before .before .before .before .before .place .result ≡ length (take (18 + 17 * c .before .before .before .before .before .before .place .result) (c .before .before .before .before .before .before .before .before .before .before .before .before .before .before .before .before .before .before .before .before .args .words .now))
@@ -41,8 +41,8 @@ sized c = sym (length-take-le (18 + 17 * c .before .before .before .before .befo
 frames-of-requires : tie.Need-frames-of-requires
 frames-of-requires c κs = search needs
 
-groups-of-requires : tie.Need-groups-of-requires
-groups-of-requires c κs = λ i. few-characters (c .before .before .before .before .before .before .before .before .before .args .job .now) (c .before .before .before .before .before .before .before .before .before .args .n) (c .before .before .before .before .before .before .before .before .before .pre .1) (c .before .before .before .before .before .before .before .before .before .args .t2) (c .before .before .before .before .before .before .before .before .before .pre .0) i
+group-counts-requires : tie.Need-group-counts-requires
+group-counts-requires c κs = λ i. few-characters (c .before .before .before .before .before .before .before .before .before .args .job .now) (c .before .before .before .before .before .before .before .before .before .args .n) (c .before .before .before .before .before .before .before .before .before .pre .1) (c .before .before .before .before .before .before .before .before .before .args .t2) (c .before .before .before .before .before .before .before .before .before .pre .0) i
 
 array-share-prefix-frames : tie.Need-array-share-prefix-frames
 array-share-prefix-frames c = long-frames c
@@ -54,7 +54,7 @@ array-share-prefix-groups : tie.Need-array-share-prefix-groups
 array-share-prefix-groups c = long-groups (c .before)
 
 slice-aggregate-place-2 : tie.Need-slice-aggregate-place-2
-slice-aggregate-place-2 c = sym (length-take-le (c .before .before .before .before .before .before .before .before .before .before .before .before .args .n) (c .before .before .groups-of .result) (long-groups (c .before .before)))
+slice-aggregate-place-2 c = sym (length-take-le (c .before .before .before .before .before .before .before .before .before .before .before .before .args .n) (c .before .before .group-counts .result) (long-groups (c .before .before)))
 
 slice-aggregate-place-3 : tie.Need-slice-aggregate-place-3
 slice-aggregate-place-3 c = search needs
@@ -63,7 +63,7 @@ place-requires : tie.Need-place-requires
 place-requires c κs =
     let from = c .before .before .before .before .before .before .before .before .before .before .before .before .before in
     (
-      front-sendable (from .args .job .now) (from .args .n) (from .pre .1) (from .args .t2) (from .pre .0) (c .before .before .before .before .before .before .before .frames-of .ensures) (c .before .before .before .groups-of .ensures),
+      front-sendable (from .args .job .now) (from .args .n) (from .pre .1) (from .args .t2) (from .pre .0) (c .before .before .before .before .before .before .before .frames-of .ensures) (c .before .before .before .group-counts .ensures),
       omega (arith, length-take-le (from .args .n) (c .before .before .before .before .before .before .before .frames-of .result) (long-frames (c .before .before .before)), accepted-job (from .args .job .now) (from .args .n) (from .pre .1) .most),
     )
 
@@ -127,7 +127,7 @@ send-pages-spec =
     tie.close
     (tie.spec
     frames-of-requires
-    groups-of-requires
+    group-counts-requires
     array-share-prefix-frames
     slice-aggregate-place
     array-share-prefix-groups

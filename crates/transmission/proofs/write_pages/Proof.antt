@@ -8,10 +8,9 @@ use lib.ListN.{length, getD}
 use Rattle.base.specs.Hex.{bytesOf}
 use Rattle.base.proofs.ListLaws.{tab-length}
 use Rattle.job.proofs.Accepted.{accepted-job}
-use Rattle.placement.proofs.Placed.{placed}
 use Rattle.transmission.specs.Sending.{sendingFrom, sendingsOf, sendingAt, placementOf}
 use Rattle.transmission.specs.Writing.{blankAt, withSendings}
-use Rattle.transmission.proofs.Sendings.{sendings-count, sendable, accepted-sendings}
+use Rattle.transmission.proofs.Sendings.{sendings-count, accepted-sendings, sendings-placed}
 use Rattle.transmission.proofs.Planned.{page-sending, brief, counted, low, fits, page-more}
 use Rattle.transmission.proofs.Written.{with-length, written}
 use Rattle.transmission.proofs.write_pages.Statement.{statement}
@@ -115,8 +114,7 @@ loop-again c =
     let h : at .loop .i < from .args .n = c .before .before .before .before .before .before .before .before .before .before .before .loop-test .taken in (
       at .loop .inv .0,
       omega (arith, h),
-      c .before .before .write-page .ensures
-          ∙ page-more (from .args .job .now) (from .args .n) (from .pre .1 .0) (from .pre .1 .1) (at .loop .i) h _ (sent-as (c .before .before .before .before .before .before .before .before)) (at .loop .inv .2),
+      page-more (from .args .job .now) (from .args .n) (from .pre .1 .0) (from .pre .1 .1) (at .loop .i) h _ (sent-as (c .before .before .before .before .before .before .before .before)) (at .loop .inv .2) (c .before .before .write-page .ensures),
     )
 
 same-length : tie.Need-same-length Inv-loop μ-loop
@@ -129,7 +127,7 @@ returns c =
     let s = from .args .job .now in
     let a = accepted-sendings s (from .args .n) (from .pre .1 .0) in
     let e : at .loop .i ≡ length (sendingsOf s) = omega (arith, sendings-count s (from .args .n) (from .pre .1 .0)) in
-    at .loop .inv .2 ∙ rw (e, at .before .before .before .write-blank .ensures, from .pre .1 .1 .exact) (written (sendingsOf s) (placed (placementOf (sendingsOf s)) (sendable a .framed)))
+    at .loop .inv .2 ∙ rw (e, at .before .before .before .write-blank .ensures, from .pre .1 .1 .exact) (written (sendingsOf s) (sendings-placed a))
 
 pub write-pages-spec : {M : Type 1} → statement M
 write-pages-spec =

@@ -29,8 +29,8 @@ use Rattle.transmission.specs.Transmission.{codewordsOf, transmissionOf}
 use Rattle.transmission.specs.Report.{sentInto}
 use Rattle.transmission.specs.Writing.{Planned}
 use Rattle.transmission.specs.declared.Report.the-variants.{Sent, NoRoom}
-use Rattle.transmission.proofs.Sendings.{sending-at, pages-are, sendings-count, sendable, accepted-sendings}
-use Rattle.transmission.proofs.TransmissionLaws.{transmission-length, batches-most}
+use Rattle.transmission.proofs.Sendings.{sending-at, pages-are, sendings-count, sendable, accepted-sendings, sendings-limits}
+use Rattle.transmission.proofs.TransmissionLaws.{transmission-length}
 
 -- what is known when the pages are placed, before a slice is tested: each page's number of groups and slot, and the number of batches
 pub record Prepared (s : List ℕ) (n : ℕ) (groups places : List ℕ) (b : ℕ) : Type 0 where
@@ -157,7 +157,7 @@ module _ (s : List ℕ) (n : ℕ) (ok : jobOf s ≡ Accepted n) (pages : Pages) 
 
 module _ {s : List ℕ} {n : ℕ} {groups places : List ℕ} {b : ℕ} (r : Prepared s n groups places b) where
   pub few-batches : b ≤ 298
-  few-batches = rw (r .total) (batches-most (accepted-sendings s n (r .accepted)))
+  few-batches = rw (r .total) (sendings-limits (accepted-sendings s n (r .accepted)) .most)
 
   pub plan : {room : ℕ} → room ≡ 18 + 17 * b → Planned (sendingsOf s) groups places room
   plan e = record { counted = r .counted; placed = r .placed; exact = e ∙ ap (λ (x : ℕ). 18 + 17 * x) (r .total) }

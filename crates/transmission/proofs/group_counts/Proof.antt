@@ -1,4 +1,4 @@
--- `transmission::groups_of` meets its contract. The invariant: the first i counts stand. Assumes nothing.
+-- `transmission::group_counts` meets its contract. The invariant: the first i counts stand. Assumes nothing.
 use mathlib.Core.Path.{_≡_, refl, sym, ap, _∙_}
 use Prim.Native.Nat.{ℕ, _≤_, _-_}
 use native.Mathlib.Omega.{arith}
@@ -11,10 +11,10 @@ use Rattle.text.specs.Coding.{groupsOf}
 use Rattle.text.specs.declared.Coding.{Coding}
 use Rattle.text.specs.declared.Coding.the-variants.{Numeric, Alphanumeric}
 use Rattle.job.specs.Line.{codingOf}
-use Rattle.transmission.proofs.groups_of.Statement.{statement}
-use Rattle.transmission.proofs.groups_of.Tie as tie
-use Rattle.transmission.proofs.groups_of.Reads as reads
-use Rattle.transmission.proofs.groups_of.Lts as lts
+use Rattle.transmission.proofs.group_counts.Statement.{statement}
+use Rattle.transmission.proofs.group_counts.Tie as tie
+use Rattle.transmission.proofs.group_counts.Reads as reads
+use Rattle.transmission.proofs.group_counts.Lts as lts
 use Rattle.job.proofs.coding.Reads as coding-reads
 use Rattle.text.proofs.groups.Reads as groups-reads
 
@@ -84,8 +84,8 @@ returns c =
     let counts = at .before .args .counts .now in
     tab-full (λ k. groupsOf (codingOf (getD kinds k 0)) (getD counts k 0)) 48 _ refl (at .loop .i) (at .loop .inv .1) (omega arith)
 
-pub groups-of-spec : {M : Type 1} → statement M
-groups-of-spec =
+pub group-counts-spec : {M : Type 1} → statement M
+group-counts-spec =
     tie.close
     (tie.spec
     Inv-loop
