@@ -1,0 +1,3 @@
+pub mod Order
+pub mod Transport
+pub mod Demand2
