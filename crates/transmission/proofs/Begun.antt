@@ -8,11 +8,12 @@ use native.Mathlib.Omega.{arith}
 use native.Mathlib.Numerals.{add-one}
 use lib.ListN.{length, getD, set, length-set}
 use lib.Seq.{getD-set-same, getD-set-other}
-use Rattle.codeword.specs.Code.{codeword, addressBits, messageBits}
-use Rattle.text.specs.Coding.{groupOf, groupsIn}
+use Rattle.codeword.specs.Code.{codeword, messageBits}
+use Rattle.text.specs.Coding.{groupOf}
 use Rattle.text.proofs.GroupLaws.{groups-length, groups-at}
-use Rattle.job.specs.Line.{codingOf, functionOf}
+use Rattle.job.specs.Line.{codingOf}
 use Rattle.transmission.specs.Sending.{Sending, sendingFrom}
+use Rattle.transmission.specs.Transmission.{addressOf}
 use Rattle.transmission.specs.Transmitted.{slotIndex}
 use Rattle.transmission.specs.Writing.{codewordAt, begun}
 
@@ -47,7 +48,7 @@ module _ (x : Sending) (s : ℕ) (words : List ℕ) where
       (eq-or-lt-of-le (le-of-suc-le-suc h))
 
   -- the address codeword
-  pub begun-first : {k v : ℕ} → k ≡ slotIndex s → v ≡ codeword (addressBits (x .identity) (x .function)) → set words k v ≡ begun x s 1 words
+  pub begun-first : {k v : ℕ} → k ≡ slotIndex s → v ≡ addressOf x → set words k v ≡ begun x s 1 words
   unfolding begun codewordAt
   begun-first p q = let e : s + 0 ≡ s = omega arith in rw (p, q, e)
 

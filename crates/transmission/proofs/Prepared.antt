@@ -24,7 +24,7 @@ use Rattle.job.specs.declared.Pages.{Pages}
 use Rattle.job.proofs.Accepted.{accepted-job}
 use Rattle.placement.specs.Placement as placement
 use Rattle.placement.specs.Placement.{Sendable, batches, slotOf, slots}
-use Rattle.transmission.specs.Sending.{Sending, sendingOf, sendingsOf, sendingAt, framesOf, countsOf, placementOf}
+use Rattle.transmission.specs.Sending.{Sending, sendingsOf, sendingAt, framesOf, countsOf, placementOf}
 use Rattle.transmission.specs.Transmission.{codewordsOf, transmissionOf}
 use Rattle.transmission.specs.Report.{sentInto}
 use Rattle.transmission.specs.Writing.{Planned}

@@ -1,10 +1,10 @@
 -- The sendings of an accepted job: each is allowed, and the placement takes them. Assumes nothing.
-use Prim.Native.Nat.{ℕ, zero, suc, _+_, _*_, _%_, _≤_, _<_, zero-le}
+use Prim.Native.Nat.{ℕ, zero, suc, _*_, _%_, _≤_, _<_, zero-le}
 use native.Mathlib.Nat.{mul-suc}
-use mathlib.Core.Path.{_≡_, sym, ap, _∙_}
-use mathlib.Core.List.{List, map}
+use mathlib.Core.Path.{_≡_, sym, _∙_}
+use mathlib.Core.List.{List}
 use native.Mathlib.Omega.{arith}
-use lib.ListN.{length, getD, length-map, List·getD-map}
+use lib.ListN.{length, length-map, List·getD-map}
 use Rattle.base.specs.Search.{sum}
 use Rattle.base.specs.Lists.{tab}
 use Rattle.text.specs.Coding.{groupsIn}
@@ -12,7 +12,6 @@ use Rattle.text.proofs.GroupLaws.{groups-length, groups-small}
 use Rattle.job.specs.Line.{codingOf, functionOf}
 use Rattle.job.specs.Pages.{pagesOf, noPage, pageAt}
 use Rattle.job.specs.Job.{jobOf}
-use Rattle.job.specs.Accepted.{AcceptedJob}
 use Rattle.job.specs.declared.JobAnswer.the-variants.{Accepted}
 use Rattle.job.proofs.Accepted.{accepted-job}
 use Rattle.placement.specs.Placement.{Sendable}

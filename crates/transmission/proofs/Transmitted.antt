@@ -1,8 +1,8 @@
 -- Demand 3 over the words: `transmitted` proves the record `Transmitted` for the sendings of an accepted job. Assumes nothing.
-use mathlib.Core.Path.{_≡_, refl, sym, ap, _∙_}
-use mathlib.Core.Bool.{Bool, true, false, not, cond, _&&_, _||_}
+use mathlib.Core.Path.{_≡_, refl, ap, _∙_}
+use mathlib.Core.Bool.{Bool, true, false, not, cond, _||_}
 use mathlib.Core.List.{List}
-use Prim.Native.Nat.{ℕ, zero, suc, _+_, _*_, _/_, _%_, _^_, _≤_, _<_}
+use Prim.Native.Nat.{ℕ, zero, suc, _+_, _*_, _/_, _^_, _≤_, _<_}
 use native.Mathlib.Nat.{add-zero, add-suc}
 use native.Mathlib.Omega.{arith}
 use lib.Dec.{eqb, ltb}
@@ -16,13 +16,13 @@ use Rattle.codeword.proofs.CodeLaws.{codeword-front}
 use Rattle.job.specs.Line.{isReserved}
 use Rattle.job.specs.Job.{jobOf}
 use Rattle.job.specs.declared.JobAnswer.the-variants.{Accepted}
-use Rattle.placement.specs.Placement.{Job, Framed, Content, idle, address, message, contentAt, batches, slotOf}
+use Rattle.placement.specs.Placement.{Job, Framed, Content, batches, slotOf}
 use Rattle.placement.specs.Promise.{Holds, nothing, itsAddress, itsMessage}
 use Rattle.placement.proofs.Placed.{placed}
 use Rattle.transmission.specs.Sending.{Sending, sendingsOf, sendingAt, placementOf, Allowed, AllAllowed}
-use Rattle.transmission.specs.Transmission.{Codewords, codewordsOf, codewordIn, batchWord, wordAt}
+use Rattle.transmission.specs.Transmission.{Codewords, addressOf, codewordsOf, codewordIn, batchWord, wordAt}
 use Rattle.transmission.specs.Transmitted.{slotWord, isAddress, Coded, Transmitted}
-use Rattle.transmission.proofs.Sendings.{pages-are, words-at, sendable, accepted-sendings}
+use Rattle.transmission.proofs.Sendings.{pages-are, sendable, accepted-sendings}
 use Rattle.transmission.proofs.TransmissionLaws.{word-in, slot-word}
 
 -- ---- what the codewords of allowed sendings are
@@ -40,7 +40,7 @@ free-upper identity e = (λ q. true-false (rw (eq-eqb (identity / 8) 250958 q)) 
 abbrev Addresses : ℕ → Type 0
 Addresses w = (w < 2 ^ 31) × ((w ≡ code.idle → ⊥) × (w ≡ code.sync → ⊥))
 
-address-word : (x : Sending) → Allowed x → Addresses (codeword (addressBits (x .identity) (x .function)))
+address-word : (x : Sending) → Allowed x → Addresses (addressOf x)
 address-word x a =
     let m = addressBits (x .identity) (x .function) in
     let f : codeword m / 2048 ≡ m = codeword-front m (omega arith) in

@@ -1,25 +1,23 @@
 -- Writing page by page over a blank transmission makes the transmission: `written`. Assumes nothing.
 use Prim.Native.Nat.{ℕ, zero, suc, _+_, _-_, _*_, _/_, _%_, _≤_, _<_, zero-le}
 use mathlib.Core.Path.{_≡_, refl, sym, ap, _∙_}
-use mathlib.Core.Bool.{true, false, cond}
 use mathlib.Core.List.{List}
 use mathlib.Core.Logic.{⊎-elim}
 use native.Mathlib.Nat.{eq-or-lt-of-le, le-of-suc-le-suc}
 use native.Mathlib.Omega.{arith}
-use lib.Dec.{eqb, ltb}
-use lib.ListN.{length, getD, set, length-set}
-use lib.Seq.{getD-set-same, getD-set-other, ext-getD}
+use lib.ListN.{length, getD}
+use lib.Seq.{ext-getD}
 use borrow.Author.Tests.{lt-ltb, le-ltb, eq-eqb, ne-eqb}
 use Rattle.base.specs.Lists.{tab}
 use Rattle.base.proofs.ListLaws.{tab-length, tab-at}
 use Rattle.base.proofs.SearchLaws.{le-or-lt}
 use Rattle.codeword.specs.Code as code
-use Rattle.placement.specs.Placement.{Content, idle, address, message, contentAt, batches, slotOf}
+use Rattle.placement.specs.Placement.{Content, idle, address, message, contentAt, slotOf}
 use Rattle.placement.specs.Promise.{Holds, nothing, itsAddress, itsMessage, Placed}
 use Rattle.transmission.specs.Sending.{Sending, sendingAt, placementOf}
-use Rattle.transmission.specs.Transmission.{codewordsOf, codewordIn, preamble, batchWord, wordAt, wordCount, transmission, transmissionOf}
+use Rattle.transmission.specs.Transmission.{codewordsOf, codewordIn, preamble, batchWord, wordAt, wordCount, transmissionOf}
 use Rattle.transmission.specs.Transmitted.{slotIndex}
-use Rattle.transmission.specs.Writing.{blankAt, codewordAt, begun, withSending, withSendings}
+use Rattle.transmission.specs.Writing.{blankAt, codewordAt, withSendings}
 use Rattle.transmission.proofs.Sendings.{pages-are, words-at}
 use Rattle.transmission.proofs.Begun.{slot-index-inj, begun-length, begun-other, begun-at}
 use Rattle.transmission.proofs.TransmissionLaws.{word-in, slot-word, transmission-length, transmission-at}

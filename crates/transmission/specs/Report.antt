@@ -1,5 +1,6 @@
 -- What sending a job answers, and what it leaves in the two lent slices.
 use Prim.Native.Nat.{ℕ}
+use mathlib.Core.Path.{_≡_}
 use mathlib.Core.Bool.{cond, _||_}
 use mathlib.Core.List.{List, []}
 use lib.ListN.{length}
@@ -51,3 +52,21 @@ abbrev pub placeOf : Report → ℕ
 placeOf (Sent batches words) = 0
 placeOf (Declined why place) = place
 placeOf NoRoom = 0
+
+-- its number of batches and of words: zero where the job is declined
+abbrev pub batchesOf : Report → ℕ
+batchesOf (Sent batches words) = batches
+batchesOf (Declined why place) = 0
+batchesOf NoRoom = 0
+
+abbrev pub wordsOf : Report → ℕ
+wordsOf (Sent batches words) = words
+wordsOf (Declined why place) = 0
+wordsOf NoRoom = 0
+
+-- a declined call: nothing is written, and the counts are zero. `declined` in proofs/ReportLaws.antt proves it where the number isn't 0
+pub record Nothing (r : Report) (xs : List Sending) : Type 0 where
+  pub words : wordsSent r xs ≡ []
+  pub slots : slotsSent r xs ≡ []
+  pub noBatches : batchesOf r ≡ 0
+  pub noWords : wordsOf r ≡ 0

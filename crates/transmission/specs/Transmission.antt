@@ -16,13 +16,16 @@ pub record Codewords : Type 0 where
   pub address : ℕ → ℕ
   pub message : ℕ → ℕ → ℕ
 
--- those of sendings: an address from identity and function, a message codeword from each group
+-- those of a sending: an address from identity and function, a message codeword from each group
+abbrev pub addressOf : Sending → ℕ
+addressOf x = codeword (addressBits (x .identity) (x .function))
+
+abbrev pub messageOf : Sending → ℕ → ℕ
+messageOf x j = codeword (messageBits (getD (x .groups) j 0))
+
+-- those of sendings
 abbrev pub codewordsOf : List Sending → Codewords
-codewordsOf xs =
-    record {
-      address = λ i. codeword (addressBits (sendingAt xs i .identity) (sendingAt xs i .function));
-      message = λ i j. codeword (messageBits (getD (sendingAt xs i .groups) j 0));
-    }
+codewordsOf xs = record { address = λ i. addressOf (sendingAt xs i); message = λ i j. messageOf (sendingAt xs i) j }
 
 -- the codeword of what a slot holds
 unfoldable pub codewordIn : Codewords → Content → ℕ

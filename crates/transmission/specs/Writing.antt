@@ -7,10 +7,9 @@ use mathlib.Core.List.{List}
 use lib.ListN.{length, getD, set}
 use lib.Dec.{eqb, ltb}
 use Rattle.codeword.specs.Code as code
-use Rattle.codeword.specs.Code.{codeword, addressBits, messageBits}
 use Rattle.placement.specs.Placement.{slotOf}
 use Rattle.transmission.specs.Sending.{Sending, sendingAt, placementOf}
-use Rattle.transmission.specs.Transmission.{preamble, wordCount}
+use Rattle.transmission.specs.Transmission.{addressOf, messageOf, preamble, wordCount}
 use Rattle.transmission.specs.Transmitted.{slotIndex}
 
 -- word k of a transmission whose slots are all idle
@@ -19,8 +18,8 @@ blankAt k = cond (ltb k 18) preamble (cond (eqb ((k - 18) % 17) 0) code.sync cod
 
 -- codeword j of a sending: its address, then a message codeword for each group
 unfoldable pub codewordAt : Sending → ℕ → ℕ
-codewordAt x zero = codeword (addressBits (x .identity) (x .function))
-codewordAt x (suc j) = codeword (messageBits (getD (x .groups) j 0))
+codewordAt x zero = addressOf x
+codewordAt x (suc j) = messageOf x j
 
 -- words with the first n codewords of a sending in the slots from s on
 unfoldable pub begun : Sending → ℕ → ℕ → List ℕ → List ℕ

@@ -17,6 +17,9 @@ use job::JobAnswer;
 use job::Pages;
 use job::Refusal;
 
+// A word of the preamble.
+const PREAMBLE: u32 = 0xAAAA_AAAA;
+
 // What sending a job answers.
 pub enum Report {
     // The number of batches, and of words: 18 plus 17 a batch.
@@ -91,7 +94,7 @@ fn blank_word(k: usize) -> u32
     ensures { λ r. ⌜ r ≡ blankAt k ⌝ }
 {
     if k < 18 {
-        return 0xAAAA_AAAA;
+        return PREAMBLE;
     }
     if (k - 18) % 17 == 0 {
         Codeword::SYNC.word()

@@ -5,9 +5,6 @@ use Rattle.transmission.specs.Writing.{blankAt}
 use borrow.Author.Needs.{needs}
 use Rattle.transmission.proofs.blank_word.Statement.{statement}
 use Rattle.transmission.proofs.blank_word.Tie as tie
-use Rattle.transmission.proofs.blank_word.Reads as reads
-use Rattle.transmission.proofs.blank_word.Lts as lts
-use Rattle.codeword.proofs.Codeword.word.Reads as word-reads
 
 returns : tie.Need-returns
 unfolding blankAt

@@ -1,16 +1,14 @@
 -- `transmission::frames_of` meets its contract. The invariant: the first i frames stand. Assumes nothing.
-use mathlib.Core.Path.{_≡_, refl, sym, _∙_}
+use mathlib.Core.Path.{_≡_, refl}
 use Prim.Native.Nat.{_≤_, _-_, _%_}
 use native.Mathlib.Omega.{arith}
 use borrow.Author.Needs.{needs}
-use lib.ListN.{length, getD}
+use lib.ListN.{getD}
 use Rattle.base.specs.Lists.{tab}
 use Rattle.base.proofs.ListLaws.{filled}
 use Rattle.transmission.proofs.Filling.{tab-turn, tab-full}
 use Rattle.transmission.proofs.frames_of.Statement.{statement}
 use Rattle.transmission.proofs.frames_of.Tie as tie
-use Rattle.transmission.proofs.frames_of.Reads as reads
-use Rattle.transmission.proofs.frames_of.Lts as lts
 
 abbrev Inv-loop : tie.InvT-loop
 Inv-loop identities frames₀ i₀ frames i = (i ≤ 48) × (frames ≡ filled frames₀ (tab (λ k. getD identities k 0 % 8) 48) i)

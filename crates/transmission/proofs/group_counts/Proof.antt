@@ -1,9 +1,9 @@
 -- `transmission::group_counts` meets its contract. The invariant: the first i counts stand. Assumes nothing.
-use mathlib.Core.Path.{_≡_, refl, sym, ap, _∙_}
+use mathlib.Core.Path.{_≡_, refl, ap, _∙_}
 use Prim.Native.Nat.{ℕ, _≤_, _-_}
 use native.Mathlib.Omega.{arith}
 use borrow.Author.Needs.{needs}
-use lib.ListN.{length, getD}
+use lib.ListN.{getD}
 use Rattle.base.specs.Lists.{tab}
 use Rattle.base.proofs.ListLaws.{filled}
 use Rattle.transmission.proofs.Filling.{tab-turn, tab-full}
@@ -13,10 +13,6 @@ use Rattle.text.specs.declared.Coding.the-variants.{Numeric, Alphanumeric}
 use Rattle.job.specs.Line.{codingOf}
 use Rattle.transmission.proofs.group_counts.Statement.{statement}
 use Rattle.transmission.proofs.group_counts.Tie as tie
-use Rattle.transmission.proofs.group_counts.Reads as reads
-use Rattle.transmission.proofs.group_counts.Lts as lts
-use Rattle.job.proofs.coding.Reads as coding-reads
-use Rattle.text.proofs.groups.Reads as groups-reads
 
 few : (c : Coding) (n : ℕ) → n ≤ 240 → groupsOf c n ≤ 84
 few Numeric n h = omega arith

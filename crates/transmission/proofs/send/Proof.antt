@@ -5,10 +5,6 @@ use Rattle.transmission.proofs.ReportLaws.{read-answer, report-declined
 use borrow.Author.Needs.{needs}
 use Rattle.transmission.proofs.send.Statement.{statement}
 use Rattle.transmission.proofs.send.Tie as tie
-use Rattle.transmission.proofs.send.Reads as reads
-use Rattle.transmission.proofs.send.Lts as lts
-use Rattle.job.proofs.read_job.Reads as read-job-reads
-use Rattle.transmission.proofs.send_pages.Reads as send-pages-reads
 
 read-job-requires : tie.Need-read-job-requires
 read-job-requires c κs = search needs

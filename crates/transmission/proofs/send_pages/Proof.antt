@@ -1,5 +1,5 @@
 -- `transmission::send_pages` meets its contract. Assumes nothing.
-use mathlib.Core.Path.{_≡_, refl, sym, ap, _∙_}
+use mathlib.Core.Path.{_≡_, refl, sym}
 use Prim.Native.Nat.{_+_, _*_, _≤_}
 use native.Mathlib.Omega.{arith}
 use Rattle.job.proofs.Accepted.{accepted-job}
@@ -9,13 +9,6 @@ use Rattle.transmission.proofs.Prepared.{Prepared, few-characters, fram
 use borrow.Author.Needs.{needs}
 use Rattle.transmission.proofs.send_pages.Statement.{statement}
 use Rattle.transmission.proofs.send_pages.Tie as tie
-use Rattle.transmission.proofs.send_pages.Reads as reads
-use Rattle.transmission.proofs.send_pages.Lts as lts
-use Rattle.placement.proofs.place.Reads as place-reads
-use Rattle.transmission.proofs.copy_front.Reads as copy-front-reads
-use Rattle.transmission.proofs.frames_of.Reads as frames-of-reads
-use Rattle.transmission.proofs.group_counts.Reads as group-counts-reads
-use Rattle.transmission.proofs.write_pages.Reads as write-pages-reads
 
 -- the two arrays hold all pages
 long-frames : (c : tie.After-group-counts) → c .before .before .before .before .before .before .before .before .before .before .args .n ≤ length (c .before .before .before .before .frames-of .result)
@@ -61,8 +54,7 @@ slice-aggregate-place-3 c = search needs
 
 place-requires : tie.Need-place-requires
 place-requires c κs =
-    let from = c .before .before .before .before .before .before .before .before .before .before .before .before .before in
-    (
+    let from = c .before .before .before .before .before .before .before .before .before .before .before .before .before in (
       front-sendable (from .args .job .now) (from .args .n) (from .pre .1) (from .args .t2) (from .pre .0) (c .before .before .before .before .before .before .before .frames-of .ensures) (c .before .before .before .group-counts .ensures),
       omega (arith, length-take-le (from .args .n) (c .before .before .before .before .before .before .before .frames-of .result) (long-frames (c .before .before .before)), accepted-job (from .args .job .now) (from .args .n) (from .pre .1) .most),
     )

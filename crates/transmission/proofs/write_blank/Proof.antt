@@ -1,5 +1,5 @@
 -- `transmission::write_blank` meets its contract. The invariant: the first k words are written, and the others are as they came. Assumes nothing.
-use mathlib.Core.Path.{_≡_, refl, sym, _∙_}
+use mathlib.Core.Path.{_≡_, refl, _∙_}
 use Prim.Native.Nat.{_≤_, _-_}
 use native.Mathlib.Omega.{arith}
 use borrow.Author.Needs.{needs}
@@ -10,9 +10,6 @@ use Rattle.transmission.proofs.Filling.{tab-turn, tab-full}
 use Rattle.transmission.specs.Writing.{blankAt}
 use Rattle.transmission.proofs.write_blank.Statement.{statement}
 use Rattle.transmission.proofs.write_blank.Tie as tie
-use Rattle.transmission.proofs.write_blank.Reads as reads
-use Rattle.transmission.proofs.write_blank.Lts as lts
-use Rattle.transmission.proofs.blank_word.Reads as blank-word-reads
 
 abbrev Inv-loop : tie.InvT-loop
 Inv-loop words₀ count k₀ words k = (k ≤ length words₀) × (length words ≡ length words₀) × (words ≡ filled words₀ (tab blankAt (length words₀)) k)

@@ -1,5 +1,5 @@
 -- `transmission::write_page` meets its contract. The invariant: the address and the first j message codewords are written. Assumes nothing.
-use mathlib.Core.Path.{_≡_, refl, sym, ap, _∙_}
+use mathlib.Core.Path.{_≡_, refl, ap, _∙_}
 use mathlib.Core.List.{List}
 use Prim.Native.Nat.{ℕ, suc, _≤_, _-_}
 use native.Mathlib.Omega.{arith}
@@ -10,20 +10,10 @@ use Rattle.text.specs.Coding.{groupOf}
 use Rattle.text.specs.declared.Coding.{Coding}
 use Rattle.codeword.specs.Code.{codeword, addressBits}
 use Rattle.transmission.specs.Sending.{sendingFrom}
-use Rattle.transmission.specs.Transmitted.{slotIndex}
 use Rattle.transmission.specs.Writing.{begun}
 use Rattle.transmission.proofs.Begun.{begun-first, begun-more, message-from}
 use Rattle.transmission.proofs.write_page.Statement.{statement}
 use Rattle.transmission.proofs.write_page.Tie as tie
-use Rattle.transmission.proofs.write_page.Reads as reads
-use Rattle.transmission.proofs.write_page.Lts as lts
-use Rattle.codeword.proofs.Codeword.address.Reads as address-reads
-use Rattle.codeword.proofs.Codeword.message.Reads as message-reads
-use Rattle.codeword.proofs.Codeword.word.Reads as word-reads
-use Rattle.job.proofs.coding.Reads as coding-reads
-use Rattle.job.proofs.function.Reads as function-reads
-use Rattle.text.proofs.group.Reads as group-reads
-use Rattle.transmission.proofs.slot_index.Reads as slot-index-reads
 
 abbrev Inv-loop : tie.InvT-loop
 Inv-loop identity kind text groups slot words₀ coding j₀ words j = (j ≤ groups) × (length words ≡ length words₀) × ((w : List ℕ) → words₀ ≡ begun (sendingFrom identity kind (bytesOf text)) slot 1 w → words ≡ begun (sendingFrom identity kind (bytesOf text)) slot (suc j) w)

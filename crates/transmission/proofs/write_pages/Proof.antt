@@ -1,5 +1,5 @@
 -- `transmission::write_pages` meets its contract. The invariant: the first i pages are written over the blank words. Assumes nothing.
-use mathlib.Core.Path.{_≡_, refl, sym, ap, _∙_}
+use mathlib.Core.Path.{_≡_, refl, ap, _∙_}
 use Prim.Native.Nat.{_<_, _≤_, _-_}
 use native.Mathlib.Omega.{arith}
 use borrow.Author.Needs.{needs}
@@ -8,18 +8,13 @@ use lib.ListN.{length, getD}
 use Rattle.base.specs.Hex.{bytesOf}
 use Rattle.base.proofs.ListLaws.{tab-length}
 use Rattle.job.proofs.Accepted.{accepted-job}
-use Rattle.transmission.specs.Sending.{sendingFrom, sendingsOf, sendingAt, placementOf}
+use Rattle.transmission.specs.Sending.{sendingFrom, sendingsOf, sendingAt}
 use Rattle.transmission.specs.Writing.{blankAt, withSendings}
 use Rattle.transmission.proofs.Sendings.{sendings-count, accepted-sendings, sendings-placed}
 use Rattle.transmission.proofs.Planned.{page-sending, brief, counted, low, fits, page-more}
 use Rattle.transmission.proofs.Written.{with-length, written}
 use Rattle.transmission.proofs.write_pages.Statement.{statement}
 use Rattle.transmission.proofs.write_pages.Tie as tie
-use Rattle.transmission.proofs.write_pages.Reads as reads
-use Rattle.transmission.proofs.write_pages.Lts as lts
-use Rattle.job.proofs.page_text.Reads as page-text-reads
-use Rattle.transmission.proofs.write_blank.Reads as write-blank-reads
-use Rattle.transmission.proofs.write_page.Reads as write-page-reads
 
 abbrev Inv-loop : tie.InvT-loop
 Inv-loop job n groups places words₀ pages i₀ words i = (n ≤ 48) × (i ≤ n) × (words ≡ withSendings (sendingsOf job) i words₀)
