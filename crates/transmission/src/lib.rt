@@ -39,9 +39,9 @@ pub fn number(r: Report) -> u32
             batches: _,
             words: _,
         } => 0,
-        Report::Declined { why, place } => job::number(JobAnswer::Refused {
+        Report::Declined { why, place: _ } => job::number(JobAnswer::Refused {
             why: why,
-            place: place,
+            place: 0,
         }),
         Report::NoRoom => 10,
     }
@@ -175,9 +175,9 @@ fn copy_front(from: &[u32], to: &mut [u32])
     requires { ⌜ length (now from) ≤ length (now to) ⌝ }
     ensures { λ _. ⌜ now (to .exit) ≡ over (now (to .entry)) (now (from .entry)) ⌝ }
 {
-    let n = from.len();
+    let count = from.len();
     let mut i = 0;
-    while i < n {
+    while i < count {
         to[i] = from[i];
         i += 1;
     }

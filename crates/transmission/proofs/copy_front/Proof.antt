@@ -9,10 +9,10 @@ use Rattle.transmission.proofs.copy_front.Statement.{statement}
 use Rattle.transmission.proofs.copy_front.Tie as tie
 
 abbrev Inv-loop : tie.InvT-loop
-Inv-loop from to₀ n i₀ to i = (i ≤ length from) × (length to ≡ length to₀) × (to ≡ filled to₀ from i)
+Inv-loop from to₀ count i₀ to i = (i ≤ length from) × (length to ≡ length to₀) × (to ≡ filled to₀ from i)
 
 abbrev μ-loop : tie.MeasureT-loop
-μ-loop from to₀ n i₀ to i = length from - i
+μ-loop from to₀ count i₀ to i = length from - i
 
 loop-holds : tie.Need-loop-holds Inv-loop μ-loop
 loop-holds c = (omega arith, refl, refl)
