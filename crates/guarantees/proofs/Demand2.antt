@@ -17,8 +17,8 @@ use Rattle.transmission.specs.Sending.{sendingsOf, sendingAt, placementOf, AllA
 use Rattle.transmission.specs.Transmission.{codewordsOf, transmissionOf}
 use Rattle.transmission.specs.Report.{answered, reportOf}
 use Rattle.transmission.specs.declared.Report.the-variants.{Sent}
-use Rattle.transmission.proofs.Sendings.{pages-are, sendable, sendings-count, accepted-sendings}
-use Rattle.transmission.proofs.TransmissionLaws.{transmission-length, batches-least, batches-most}
+use Rattle.transmission.proofs.Sendings.{pages-are, sendable, sendings-limits, sendings-count, accepted-sendings}
+use Rattle.transmission.proofs.TransmissionLaws.{transmission-length, batches-least}
 use Rattle.listing.specs.Text.{textOf}
 use Rattle.listing.specs.ReadBack.{OfBatches, ReadBack}
 use Rattle.listing.proofs.Back.{read-back}
@@ -114,7 +114,7 @@ module _ (s : List ℕ) (n : ℕ) (ok : jobOf s ≡ Accepted n) where
     words-given : (room : ℕ) → readWords (drop 18 words) room ≡ given s n room
     words-given room =
         words-read (drop 18 words) (batches (placementOf (sendingsOf s))) room (transported .whole) (transported .synced)
-        (batches-least allowed) (omega (arith, batches-most allowed))
+        (batches-least allowed) (sendings-limits allowed .listed)
         ∙ batches-given room
 
     of-batches : OfBatches words (batches (placementOf (sendingsOf s)))
@@ -122,7 +122,7 @@ module _ (s : List ℕ) (n : ℕ) (ok : jobOf s ≡ Accepted n) where
         record {
           size = rec .whole ∙ transmission-length (codewordsOf (sendingsOf s)) (placementOf (sendingsOf s));
           some = batches-least allowed;
-          few = omega (arith, batches-most allowed);
+          few = sendings-limits allowed .listed;
           small = λ k. ⊎-elim (λ h. rw (List·getD-eq-default words 0 {n = k} h) (omega arith)) (λ h. rec .fits k h) (le-or-lt (length words) k);
         }
 

@@ -10,12 +10,12 @@ use lib.Seq.{getD-drop}
 use Rattle.codeword.specs.Code.{sync}
 use Rattle.codeword.specs.Nearest.{distance, nearest}
 use Rattle.codeword.proofs.NearestLaws.{distance-self}
-use Rattle.placement.specs.Placement.{Framed, contentAt, stateAt, batches}
+use Rattle.placement.specs.Placement.{contentAt, stateAt, batches}
 use Rattle.placement.proofs.Contents.{slot}
-use Rattle.placement.proofs.Placed.{placed, done}
+use Rattle.placement.proofs.Placed.{done}
 use Rattle.transmission.specs.Sending.{Sending, placementOf, AllAllowed}
 use Rattle.transmission.specs.Transmission.{codewordsOf, codewordIn, batchWord, wordAt, wordCount, transmissionOf}
-use Rattle.transmission.proofs.Sendings.{sendable}
+use Rattle.transmission.proofs.Sendings.{sendable, sendings-placed}
 use Rattle.transmission.proofs.TransmissionLaws.{word-in, slot-word, transmission-length, transmission-at, transmission-fits}
 use Rattle.reader.specs.Meaning.{meaning}
 use Rattle.reader.specs.Reading.{readAt, slotWord, heardIn}
@@ -42,9 +42,6 @@ module _ (xs : List Sending) (a : AllAllowed xs) (words : List ℕ) (rec : Recei
   behind-size : length (drop 18 words) ≡ 17 * batches (placementOf xs)
   behind-size = omega (arith, length-drop 18 words, size)
 
-  framed : Framed (placementOf xs)
-  framed = sendable a .framed
-
   -- a word behind the preamble, and the one that was sent
   fits : (k : ℕ) → k < 17 * batches (placementOf xs) → getD (drop 18 words) k 0 < 2 ^ 32
   fits k l = rw (getD-drop 18 words k 0) (rec .fits (18 + k) (omega (arith, size)))
@@ -63,7 +60,7 @@ module _ (xs : List Sending) (a : AllAllowed xs) (words : List ℕ) (rec : Recei
       let sent : wordAt (codewordsOf xs) (placementOf xs) (18 + k) ≡ codewordIn (codewordsOf xs) c =
       ap (wordAt (codewordsOf xs) (placementOf xs)) same ∙ slot-word (codewordsOf xs) (placementOf xs) s in
       ap meaning (corrected xs c (slotWord (drop 18 words) s) (fits k inside) (near k _ inside sent))
-      ∙ says a s c (placed (placementOf xs) framed .only s)
+      ∙ says a s c (sendings-placed a .only s)
 
   says-sync : (q : ℕ) → q < batches (placementOf xs) → nearest (getD (drop 18 words) (17 * q) 0) ≡ some sync
   unfolding batchWord
@@ -81,7 +78,7 @@ module _ (xs : List Sending) (a : AllAllowed xs) (words : List ℕ) (rec : Recei
       let m : 16 * (length (drop 18 words) / 17) ≡ n = omega (arith, behind-size) in
       rw m
       (all-heard xs (stateAt (placementOf xs) n) (orderTo (placementOf xs) n) (readAt (slotWord (drop 18 words)) n)
-      (done (placementOf xs) framed .0) (along xs (slotWord (drop 18 words)) n says-slot n (omega arith)))
+      (done (placementOf xs) (sendable a .framed) .0) (along xs (slotWord (drop 18 words)) n says-slot n (omega arith)))
 
   all-synced : (q : ℕ) → q < batches (placementOf xs) → unsynced (drop 18 words) q ≡ false
   all-synced q l = rw (says-sync q l)
