@@ -41,7 +41,8 @@ static BYTE_SYNDROMES: [[u16; 256]; 4] = {
 
 fn syndrome(word: u32) -> u32 {
     let [a, b, c, d] = word.to_be_bytes();
-    (BYTE_SYNDROMES[0][a as usize] ^ BYTE_SYNDROMES[1][b as usize] ^ BYTE_SYNDROMES[2][c as usize] ^ BYTE_SYNDROMES[3][d as usize]) as u32
+    (BYTE_SYNDROMES[0][a as usize] ^ BYTE_SYNDROMES[1][b as usize] ^ BYTE_SYNDROMES[2][c as usize] ^ BYTE_SYNDROMES[3][d as usize])
+        as u32
 }
 
 /// Marks the syndromes that no pattern of at most two wrong bits has.

@@ -65,10 +65,7 @@ impl Page {
         }
         let mut text = Vec::with_capacity(pairs.len() / 2);
         for pair in pairs.chunks_exact(2) {
-            let (Some(high), Some(low)) = (digit_value(pair[0]), digit_value(pair[1])) else {
-                return Err(1);
-            };
-            text.push((high << 4 | low) as u8);
+            text.push(number(pair).ok_or(1u32)? as u8);
         }
         if identity > 0x1F_FFFF {
             return Err(2);
@@ -76,16 +73,21 @@ impl Page {
         if codeword::is_reserved(identity >> 3) {
             return Err(3);
         }
-        let (lengths, characters): (_, fn(u8) -> bool) = match kind {
-            0..=3 => (0..=0, |_| true),
-            NUMERIC => (1..=MOST_NUMERIC, |byte| text::numeric_value(byte).is_some()),
-            ALPHANUMERIC => (1..=MOST_ALPHANUMERIC, text::is_alphanumeric),
+        let lengths = match kind {
+            0..=3 => 0..=0,
+            NUMERIC => 1..=MOST_NUMERIC,
+            ALPHANUMERIC => 1..=MOST_ALPHANUMERIC,
             _ => return Err(4),
         };
         if !lengths.contains(&text.len()) {
             return Err(5);
         }
-        if !text.iter().all(|&byte| characters(byte)) {
+        let good = match kind {
+            NUMERIC => text.iter().all(|&byte| text::numeric_value(byte).is_some()),
+            ALPHANUMERIC => text.iter().all(|&byte| text::is_alphanumeric(byte)),
+            _ => true,
+        };
+        if !good {
             return Err(6);
         }
         if kind == NUMERIC && text.last() == Some(&b' ') {
@@ -181,10 +183,36 @@ mod tests {
     #[test]
     fn form() {
         for line in [
-            "", "\n", "000009\n", "000009 \n", "000009  \n", "000009 4\r\n", "00009 4 3132\n", "0000009 4 3132\n", "00000a 4 3132\n",
-            "000009 4 \n", "000009 0 \n", "000009 4 3\n", "000009 4 313\n", "000009 4 313G\n", "000009 4 31 32\n", "000009 4 3132 \n",
-            "000009 4 3132-\n", "000009 0-\n", "000009 g\n", "000009 a\n", "000009\t4 3132\n", "000009 4  3132\n", " 000009 4 3132\n",
-            "000009 6 12345\n", "000009 6 12345-\n", "20000a 4 3132\n", "200000 4 \n", "000009 4 3132", "200000 9 3132", "0",
+            "",
+            "\n",
+            "000009\n",
+            "000009 \n",
+            "000009  \n",
+            "000009 4\r\n",
+            "00009 4 3132\n",
+            "0000009 4 3132\n",
+            "00000a 4 3132\n",
+            "000009 4 \n",
+            "000009 0 \n",
+            "000009 4 3\n",
+            "000009 4 313\n",
+            "000009 4 313G\n",
+            "000009 4 31 32\n",
+            "000009 4 3132 \n",
+            "000009 4 3132-\n",
+            "000009 0-\n",
+            "000009 g\n",
+            "000009 a\n",
+            "000009\t4 3132\n",
+            "000009 4  3132\n",
+            " 000009 4 3132\n",
+            "000009 6 12345\n",
+            "000009 6 12345-\n",
+            "20000a 4 3132\n",
+            "200000 4 \n",
+            "000009 4 3132",
+            "200000 9 3132",
+            "0",
         ] {
             let expected = if line.is_empty() { Some((9, 0)) } else { Some((1, 1)) };
             assert_eq!(fault(line), expected, "{line:?}");

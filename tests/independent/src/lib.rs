@@ -37,10 +37,13 @@ pub(crate) fn digit_value(byte: u8) -> Option<u32> {
 /// The number that upper-case hexadecimal digits spell; at most eight of them.
 pub(crate) fn number(digits: &[u8]) -> Option<u32> {
     let mut value = 0;
+    let mut seen = 0;
     for &byte in digits {
-        value = value << 4 | digit_value(byte)?;
+        let digit = DIGIT_VALUES[byte as usize];
+        value = value << 4 | digit as u32;
+        seen |= digit;
     }
-    Some(value)
+    (seen < 16).then_some(value)
 }
 
 pub(crate) const DIGITS: &[u8; 16] = b"0123456789ABCDEF";
@@ -66,6 +69,8 @@ mod tests {
         assert_eq!(number(b"1FFFFF"), Some(0x1F_FFFF));
         assert_eq!(number(b"7CD215D8"), Some(0x7CD2_15D8));
         assert_eq!(number(b"FFFFFFFF"), Some(u32::MAX));
+        assert_eq!(number(b"G0000000"), None);
+        assert_eq!(number(b"0000000g"), None);
         for byte in 0..=255u8 {
             let expected = (byte.is_ascii_digit() || (b'A'..=b'F').contains(&byte)).then(|| (byte as char).to_digit(16).unwrap());
             assert_eq!(digit_value(byte), expected, "byte {byte:02X}");

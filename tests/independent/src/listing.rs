@@ -174,7 +174,7 @@ mod tests {
                 assert_eq!(fault(format!("{} {}", &good[..start], &good[start..])), Some((21, line)));
             }
         }
-        assert_eq!(fault(good[..good.len() - 1].to_owned()), Some((21, 27)));
+        assert_eq!(fault(&good[..good.len() - 1]), Some((21, 27)));
         assert_eq!(fault(good.clone() + "\n"), Some((21, 28)));
         assert_eq!(fault(good.replacen(" 7A89C197\n", "\n", 1)), Some((21, 11)));
         assert_eq!(fault(good.replacen(ONE, "7CD215D8 7CD215D8\n", 2)), Some((21, 27 + 1)));

@@ -75,7 +75,7 @@ pub fn list(job: &[u8], out: &mut [u8]) -> Result<usize, Refusal> {
 
 /// The transmission of an accepted job, one word at a time. It doesn't look at the placement: each slot's word is found when it is
 /// asked for.
-#[derive(Clone, Debug)]
+#[derive(Clone, Debug, PartialEq, Eq)]
 pub struct Sender {
     /// Pages not yet sent, in job order.
     unsent: Vec<Outgoing>,
@@ -88,7 +88,7 @@ pub struct Sender {
     last_was_message: bool,
 }
 
-#[derive(Clone, Debug)]
+#[derive(Clone, Debug, PartialEq, Eq)]
 struct Outgoing {
     frame: usize,
     address: u32,

@@ -32,10 +32,19 @@ pub fn is_alphanumeric(byte: u8) -> bool {
     matches!(byte, 1..=127) && byte != 3 && byte != 4
 }
 
-/// The low `count` bits of `value`, low bit first.
-fn reversed(value: u32, count: u32) -> u32 {
-    value.reverse_bits() >> (32 - count)
+/// All numbers of `BITS` bits, low bit first.
+const fn reversed<const BITS: u32, const COUNT: usize>() -> [u8; COUNT] {
+    let mut table = [0; COUNT];
+    let mut value = 0;
+    while value < COUNT {
+        table[value] = ((value as u32).reverse_bits() >> (32 - BITS)) as u8;
+        value += 1;
+    }
+    table
 }
+
+static REVERSED_4: [u8; 16] = reversed::<4, 16>();
+static REVERSED_7: [u8; 128] = reversed::<7, 128>();
 
 /// Groups for a numeric text, filled with spaces. Every byte must be a numeric character.
 pub fn pack_numeric(text: &[u8], groups: &mut Vec<u32>) {
@@ -43,7 +52,7 @@ pub fn pack_numeric(text: &[u8], groups: &mut Vec<u32>) {
         let mut group = 0;
         for i in 0..5 {
             let value = five.get(i).map_or(SPACE, |&byte| NUMERIC_VALUES[byte as usize] as u32);
-            group = group << 4 | reversed(value, 4);
+            group = group << 4 | REVERSED_4[value as usize] as u32;
         }
         groups.push(group);
     }
@@ -54,7 +63,7 @@ pub fn pack_alphanumeric(text: &[u8], groups: &mut Vec<u32>) {
     let mut pending = 0;
     let mut count = 0;
     for &byte in text {
-        pending = pending << 7 | reversed(byte as u32, 7);
+        pending = pending << 7 | REVERSED_7[(byte & 0x7F) as usize] as u32;
         count += 7;
         if count >= 20 {
             count -= 20;
@@ -72,7 +81,7 @@ pub fn unpack_numeric(groups: &[u32], text: &mut Vec<u8>) {
     let start = text.len();
     for &group in groups {
         for shift in [16, 12, 8, 4, 0] {
-            text.push(NUMERIC[reversed(group >> shift & 15, 4) as usize]);
+            text.push(NUMERIC[REVERSED_4[(group >> shift & 15) as usize] as usize]);
         }
     }
     while text.len() > start && text.last() == Some(&b' ') {
@@ -89,7 +98,7 @@ pub fn unpack_alphanumeric(groups: &[u32], text: &mut Vec<u8>) {
         count += 20;
         while count >= 7 {
             count -= 7;
-            let character = reversed(pending >> count & 0x7F, 7) as u8;
+            let character = REVERSED_7[(pending >> count & 0x7F) as usize];
             if matches!(character, 0 | 3 | 4) {
                 return;
             }
@@ -125,7 +134,7 @@ mod tests {
     fn numeric_values() {
         let sendable: Vec<u8> = (0..=255).filter(|&byte| numeric_value(byte).is_some()).collect();
         assert_eq!(sendable, b" -0123456789U[]");
-        assert_eq!(b"U -][".map(|byte| numeric_value(byte)), [11, 12, 13, 14, 15].map(Some));
+        assert_eq!(b"U -][".map(numeric_value), [11, 12, 13, 14, 15].map(Some));
     }
 
     #[test]

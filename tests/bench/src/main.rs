@@ -1,0 +1,226 @@
+//! The library and the independent implementation on the same work, in one run, as a Markdown table.
+//!
+//!     bench [RUNS [MILLISECONDS]]
+//!
+//! Each row is timed RUNS times for at least MILLISECONDS each, the two in turn. The ratio is the library's time over the
+//! independent implementation's: the median of the runs, the least and the greatest. Before a row is timed, both must give the same
+//! answer. Lent buffers are made once, have the sizes that the header names, and aren't cleared before a call.
+
+mod clock;
+mod measure;
+
+use generate::words::Damage;
+use generate::{jobs, listings, words, Random};
+use independent::send::Accepted;
+use independent::{codeword, reader, send};
+use measure::{print_head, row, Effort};
+use std::hint::black_box;
+use std::time::Duration;
+
+fn main() {
+    let arguments: Vec<u64> = std::env::args().skip(1).map(|text| text.parse().expect("bench [RUNS [MILLISECONDS]]")).collect();
+    let runs = arguments.first().map_or(21, |&runs| runs.max(1) as usize);
+    let milliseconds = arguments.get(1).copied().unwrap_or(10);
+    let effort = Effort { runs, at_least: Duration::from_millis(milliseconds) };
+
+    if card::STAND_IN {
+        println!("**Stand-in: the library is not linked, the independent implementation is timed against itself.**\n");
+    }
+    println!(
+        "Ratio: time of the library over time of the independent implementation, the median of {runs} runs; then the least and the"
+    );
+    println!(
+        "greatest. Processor time of the thread, at least {milliseconds} ms a timing. Lent buffers aren't cleared before a call.\n"
+    );
+    print_head();
+    let mut bench = Bench::new(effort);
+    bench.correcting();
+    bench.sending();
+    bench.reading();
+}
+
+struct Bench {
+    effort: Effort,
+    random: Random,
+    words: Vec<u32>,
+    slots: Vec<u32>,
+    bytes: Vec<u8>,
+}
+
+/// One call for each word, as the library is called.
+#[inline(never)]
+fn correct_alone(word: u32) -> Option<u32> {
+    codeword::correct(word)
+}
+
+impl Bench {
+    fn new(effort: Effort) -> Self {
+        let longest = card::LISTING_BYTES.max(card::LINES_BYTES);
+        Bench { effort, random: Random::new(1), words: vec![0; card::WORDS], slots: vec![0; card::PAGES], bytes: vec![0; longest] }
+    }
+
+    fn correcting(&mut self) {
+        const COUNT: usize = 4096;
+        type WrongBits = fn(&mut Random) -> u32;
+        let damages: [(&str, WrongBits); 5] = [
+            ("no wrong bit", |_| 0),
+            ("one wrong bit", |random| random.ones(1)),
+            ("two wrong bits", |random| random.ones(2)),
+            ("none to two wrong bits", |random| {
+                let count = random.below(3) as u32;
+                random.ones(count)
+            }),
+            ("any words", |random| random.word()),
+        ];
+        for (name, damage) in damages {
+            let words: Vec<u32> = (0..COUNT).map(|_| words::codeword(&mut self.random) ^ damage(&mut self.random)).collect();
+            for &word in &words {
+                let answer = card::correct(word);
+                assert_eq!((answer.number == 0).then_some(answer.word), codeword::correct(word));
+            }
+            row(
+                self.effort,
+                &format!("correct a word, {name}"),
+                COUNT,
+                &mut || words.iter().for_each(|&word| _ = black_box(card::correct(black_box(word)))),
+                &mut || words.iter().for_each(|&word| _ = black_box(correct_alone(black_box(word)))),
+            );
+        }
+    }
+
+    fn sending(&mut self) {
+        let maximal = jobs::maximal(&mut self.random, &[3]);
+        let mixed = jobs::pages(&mut self.random, 48, &[0, 1, 2, 3, 4, 5, 6, 7], &[0, 1, 2, 3, 4, 5]);
+        let tones = jobs::pages(&mut self.random, 48, &[5], &[0]);
+        for (name, job) in [
+            ("1 numeric page of 10 characters", &b"12D687 4 30313233343536373839\n"[..]),
+            ("48 tones in one frame", &tones),
+            ("48 pages of every kind", &mixed),
+            ("48 alphanumeric pages of 240 characters in one frame", &maximal),
+        ] {
+            self.send_row(name, job);
+            self.list_row(name, job);
+            self.steps_rows(name, job);
+        }
+        for pages in [1, 12, 48] {
+            let job = jobs::alphanumeric(&mut self.random, pages, 240, &[0, 1, 2, 3, 4, 5, 6, 7]);
+            self.send_row(&format!("by size: {pages} alphanumeric pages of 240 characters in any frames"), &job);
+        }
+        let faulty = [&maximal[..maximal.len() - 1], b"0\n"].concat();
+        self.send_row("declined: the largest job with a fault at its end", &faulty);
+    }
+
+    fn send_row(&mut self, name: &str, job: &[u8]) {
+        let mut words = self.words.clone();
+        let mut slots = self.slots.clone();
+        let report = card::send(job, &mut self.words, &mut self.slots);
+        match send::send(job, &mut words, &mut slots) {
+            Ok(answer) => assert_eq!((answer.batches, answer.words, 0), (report.batches, report.words, report.number)),
+            Err(refusal) => assert_eq!((refusal.number, refusal.place), (report.number, report.place)),
+        }
+        assert!(words == self.words && slots == self.slots);
+        row(
+            self.effort,
+            &format!("send {name}"),
+            1,
+            &mut || _ = black_box(card::send(black_box(job), &mut self.words, &mut self.slots)),
+            &mut || _ = black_box(send::send(black_box(job), &mut words, &mut slots)),
+        );
+    }
+
+    fn list_row(&mut self, name: &str, job: &[u8]) {
+        let mut bytes = self.bytes.clone();
+        let answer = card::list(job, &mut self.bytes);
+        assert_eq!(send::list(job, &mut bytes).expect("good job"), answer.bytes);
+        assert!(bytes == self.bytes);
+        row(
+            self.effort,
+            &format!("list {name}"),
+            1,
+            &mut || _ = black_box(card::list(black_box(job), &mut self.bytes)),
+            &mut || _ = black_box(send::list(black_box(job), &mut bytes)),
+        );
+    }
+
+    /// A start and every step of a job, and the start alone.
+    #[cfg(feature = "steps")]
+    fn steps_rows(&mut self, name: &str, job: &[u8]) {
+        use card::steps::{Sender, Step};
+        row(self.effort, &format!("start {name}"), 1, &mut || _ = black_box(Sender::start(black_box(job))), &mut || {
+            _ = black_box(send::Sender::start(black_box(job)))
+        });
+        row(
+            self.effort,
+            &format!("start and all steps of {name}"),
+            1,
+            &mut || {
+                let mut sender = Sender::start(black_box(job)).expect("good job");
+                while let Step::Word(word) = sender.step() {
+                    black_box(word);
+                }
+            },
+            &mut || {
+                for word in send::Sender::start(black_box(job)).expect("good job") {
+                    black_box(word);
+                }
+            },
+        );
+    }
+
+    /// The header has no steps yet: see the file steps.rs of the crate card.
+    #[cfg(not(feature = "steps"))]
+    fn steps_rows(&mut self, _name: &str, _job: &[u8]) {}
+
+    fn reading(&mut self) {
+        let maximal = jobs::maximal(&mut self.random, &[3]);
+        let batches = Accepted::new(&maximal).expect("good job").words().split_off(18);
+        for (name, damage) in
+            [("clean", Damage::None), ("with none to two wrong bits a word", Damage::Light), ("with lost words", Damage::Spots)]
+        {
+            let mut received = batches.clone();
+            words::damage(&mut self.random, &mut received, damage);
+            self.read_listing_row(&format!("of the largest job, {name}"), &listings::listing(9, 0xAAAA_AAAA, &received));
+            self.read_words_row(&format!("of the largest job, {name}"), &received);
+        }
+        for count in [1, 30, 300] {
+            let mut full = words::full_batches(&mut self.random, count);
+            self.read_listing_row(&format!("by size: {count} full batches, clean"), &listings::listing(9, 0xAAAA_AAAA, &full));
+            words::damage(&mut self.random, &mut full, Damage::Light);
+            self.read_listing_row(&format!("by size: {count} full batches, damaged"), &listings::listing(9, 0xAAAA_AAAA, &full));
+        }
+        let idle = listings::listing(9, 0xAAAA_AAAA, &listings::idle_batches(300));
+        self.read_listing_row("of 300 idle batches", &idle);
+    }
+
+    fn read_listing_row(&mut self, name: &str, listing: &[u8]) {
+        let mut bytes = self.bytes.clone();
+        same(card::read_listing(listing, &mut self.bytes), reader::read_listing(listing, &mut bytes));
+        assert!(bytes == self.bytes);
+        row(
+            self.effort,
+            &format!("read the listing {name}"),
+            1,
+            &mut || _ = black_box(card::read_listing(black_box(listing), &mut self.bytes)),
+            &mut || _ = black_box(reader::read_listing(black_box(listing), &mut bytes)),
+        );
+    }
+
+    fn read_words_row(&mut self, name: &str, words: &[u32]) {
+        let mut bytes = self.bytes.clone();
+        same(card::read_words(words, &mut self.bytes), reader::read_words(words, &mut bytes));
+        assert!(bytes == self.bytes);
+        row(
+            self.effort,
+            &format!("read the words {name}"),
+            1,
+            &mut || _ = black_box(card::read_words(black_box(words), &mut self.bytes)),
+            &mut || _ = black_box(reader::read_words(black_box(words), &mut bytes)),
+        );
+    }
+}
+
+fn same(library: card::Reading, independent: Result<reader::Reading, independent::Refusal>) {
+    let expected = independent.expect("can be read");
+    let got = reader::Reading { bytes: library.bytes, pages: library.pages, lost: library.lost, orphans: library.orphans };
+    assert_eq!((library.number, got), (0, expected));
+}

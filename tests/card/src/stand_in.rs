@@ -1,0 +1,173 @@
+//! The library's C functions on top of the independent implementation, for builds without the archive. CARD_FAULT names a mistake
+//! to be made on purpose, so that one can see the comparison find it.
+
+use crate::{Bytes, Reading, Report, Word};
+use independent::{codeword, reader, send, Refusal};
+use std::slice::{from_raw_parts, from_raw_parts_mut};
+use std::sync::OnceLock;
+
+/// The mistakes that can be asked for.
+pub const FAULTS: &[&str] = &[
+    "correct-31-bits",
+    "correct-one-bit",
+    "refused-word-zero",
+    "no-idle-batch",
+    "slots-in-slot-order",
+    "clears-words-behind",
+    "writes-when-declined",
+    "counts-when-declined",
+    "last-buffer-unit-unused",
+    "eight-before-lines",
+    "longer-numeric",
+    "newline-optional",
+    "orphans-not-counted",
+    "cut-not-shown",
+    "place-of-21",
+    "22-before-lines",
+    "301-batches",
+    "37-preamble-lines",
+];
+
+fn is(fault: &str) -> bool {
+    static ASKED: OnceLock<String> = OnceLock::new();
+    debug_assert!(FAULTS.contains(&fault));
+    ASKED.get_or_init(|| std::env::var("CARD_FAULT").unwrap_or_default()) == fault
+}
+
+#[no_mangle]
+extern "C" fn card_correct(word: u32) -> Word {
+    if is("correct-31-bits") {
+        let near = [0, 1].into_iter().find_map(|parity| codeword::correct(word ^ parity));
+        return near.map_or(Word { word, number: 20 }, |word| Word { word, number: 0 });
+    }
+    match codeword::correct(word) {
+        Some(near) if is("correct-one-bit") && (near ^ word).count_ones() == 2 => Word { word, number: 20 },
+        Some(word) => Word { word, number: 0 },
+        None => Word { word: if is("refused-word-zero") { 0 } else { word }, number: 20 },
+    }
+}
+
+/// The job as it is or, for some mistakes, as it is wrongly taken.
+fn taken(job: &[u8]) -> Vec<u8> {
+    let mut job = job.to_vec();
+    if is("newline-optional") && job.last().is_some_and(|&byte| byte != b'\n') {
+        job.push(b'\n');
+    }
+    if is("longer-numeric") {
+        let lines = job.split_inclusive(|&byte| byte == b'\n');
+        let shorter = |line: &[u8]| {
+            if line.len() == 10 + 2 * 61 && line[7] == b'4' {
+                [&line[..9], &line[11..]].concat()
+            } else {
+                line.to_vec()
+            }
+        };
+        job = lines.map(shorter).collect::<Vec<_>>().concat();
+    }
+    if is("eight-before-lines") && job.iter().filter(|&&byte| byte == b'\n').count() > 48 {
+        job = b"000000 0\n".repeat(49);
+    }
+    job
+}
+
+#[no_mangle]
+unsafe extern "C" fn card_send(
+    job: *const u8,
+    job_length: usize,
+    words: *mut u32,
+    words_length: usize,
+    slots: *mut u32,
+    slots_length: usize,
+) -> Report {
+    let job = taken(from_raw_parts(job, job_length));
+    let words = from_raw_parts_mut(words, words_length);
+    let slots = from_raw_parts_mut(slots, slots_length);
+    if is("last-buffer-unit-unused") && words_length > 0 {
+        return report(send::send(&job, &mut words[..words_length - 1], slots));
+    }
+    let mut answer = report(send::send(&job, words, slots));
+    if answer.number == 0 {
+        let end = answer.words as usize;
+        if is("no-idle-batch") && words[end - 16..end] == [codeword::IDLE; 16] && words[end - 18] >> 31 == 1 {
+            answer.batches -= 1;
+            answer.words -= 17;
+        }
+        if is("slots-in-slot-order") {
+            let pages = job.iter().filter(|&&byte| byte == b'\n').count();
+            slots[..pages].sort();
+        }
+        if is("clears-words-behind") {
+            words[end..].fill(0);
+        }
+    } else {
+        if is("writes-when-declined") && words_length > 0 {
+            words[0] = codeword::PREAMBLE;
+        }
+        if is("counts-when-declined") && answer.number == 10 {
+            answer.batches = 1;
+        }
+    }
+    answer
+}
+
+fn report(result: Result<send::Report, Refusal>) -> Report {
+    match result {
+        Ok(send::Report { batches, words }) => Report { place: 0, number: 0, batches, words },
+        Err(Refusal { number, place }) => Report { place, number, batches: 0, words: 0 },
+    }
+}
+
+#[no_mangle]
+unsafe extern "C" fn card_list(job: *const u8, job_length: usize, out: *mut u8, out_length: usize) -> Bytes {
+    let job = taken(from_raw_parts(job, job_length));
+    match send::list(&job, from_raw_parts_mut(out, out_length)) {
+        Ok(bytes) => Bytes { place: 0, bytes, number: 0 },
+        Err(Refusal { number, place }) => Bytes { place, bytes: 0, number },
+    }
+}
+
+#[no_mangle]
+unsafe extern "C" fn card_read_words(words: *const u32, words_length: usize, out: *mut u8, out_length: usize) -> Reading {
+    let words = from_raw_parts(words, words_length);
+    let out = from_raw_parts_mut(out, out_length);
+    let most = if is("301-batches") && words.len() == 17 * 301 { words.len() - 17 } else { words.len() };
+    reading(reader::read_words(&words[..most], out), out)
+}
+
+#[no_mangle]
+unsafe extern "C" fn card_read_listing(listing: *const u8, listing_length: usize, out: *mut u8, out_length: usize) -> Reading {
+    let listing = from_raw_parts(listing, listing_length);
+    let out = from_raw_parts_mut(out, out_length);
+    let mut result = reader::read_listing(listing, out);
+    if is("37-preamble-lines") && result == Err(Refusal::new(21, 37)) {
+        result = reader::read_listing(&listing[18..], out);
+    }
+    if is("22-before-lines") && result.is_err_and(|refusal| refusal.number == 21 && refusal.place > 10) {
+        let sync = std::str::from_utf8(&listing[162..170]).ok().and_then(|digits| u32::from_str_radix(digits, 16).ok());
+        if sync.is_some_and(|word| codeword::correct(word) != Some(codeword::SYNC)) {
+            result = Err(Refusal::new(22, 1));
+        }
+    }
+    reading(result, out)
+}
+
+fn reading(result: Result<reader::Reading, Refusal>, out: &mut [u8]) -> Reading {
+    match result {
+        Ok(reader::Reading { bytes, pages, lost, orphans }) => {
+            if is("cut-not-shown") {
+                for pair in 1..bytes {
+                    if out[pair - 1] == b'-' {
+                        out[pair - 1] = b'\n';
+                    }
+                }
+            }
+            Reading { place: 0, bytes, number: 0, pages, lost, orphans: if is("orphans-not-counted") { 0 } else { orphans } }
+        }
+        Err(Refusal { number, mut place }) => {
+            if is("place-of-21") && number == 21 {
+                place = place.saturating_sub(1);
+            }
+            Reading { place, bytes: 0, number, pages: 0, lost: 0, orphans: 0 }
+        }
+    }
+}

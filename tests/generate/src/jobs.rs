@@ -1,0 +1,448 @@
+//! Jobs: good ones of every shape and size, and jobs that are declined for each reason.
+
+use crate::{bytes, Random};
+
+const NUMERIC: &[u8] = b"0123456789U -][";
+const EDGES: &[u32] = &[0, 7, 8, 0x1E_A26F, 0x1E_A278, 0x1F_347F, 0x1F_3488, 0x1F_FFF8, 0x1F_FFFF];
+const RESERVED: &[u32] = &[0x1E_A270, 0x1F_3480];
+
+/// A page line with the given text, without further ado.
+pub fn line(identity: u32, kind: u32, text: &[u8]) -> Vec<u8> {
+    let mut line = format!("{identity:06X} {kind:X}");
+    if !text.is_empty() {
+        line.push(' ');
+        for byte in text {
+            line.push_str(&format!("{byte:02X}"));
+        }
+    }
+    line.push('\n');
+    line.into_bytes()
+}
+
+pub fn is_reserved(identity: u32) -> bool {
+    RESERVED.contains(&(identity & !7))
+}
+
+/// An identity that may be used, in one of the frames.
+fn identity(random: &mut Random, frames: &[u32]) -> u32 {
+    loop {
+        let any = if random.once_in(8) { random.pick(EDGES) } else { random.word() & 0x1F_FFFF };
+        let identity = any & !7 | random.pick(frames);
+        if !is_reserved(identity) {
+            return identity;
+        }
+    }
+}
+
+pub fn numeric_text(random: &mut Random, length: usize) -> Vec<u8> {
+    let mut text: Vec<u8> = (0..length).map(|_| random.pick(NUMERIC)).collect();
+    if text.last() == Some(&b' ') {
+        *text.last_mut().unwrap() = b'7';
+    }
+    text
+}
+
+pub fn alphanumeric_text(random: &mut Random, length: usize) -> Vec<u8> {
+    let mut character = || loop {
+        let byte = random.byte() & 0x7F;
+        if !matches!(byte, 0 | 3 | 4) {
+            return byte;
+        }
+    };
+    (0..length).map(|_| character()).collect()
+}
+
+/// A length from 1 to `most`, often at a limit or just where another codeword begins.
+fn length(random: &mut Random, most: usize) -> usize {
+    let length = match random.below(8) {
+        0 => 1,
+        1 | 2 => most,
+        3 => most - 1,
+        4 => 5 * random.between(1, most / 5) + random.below(2),
+        5 => 20 * random.between(1, most / 20) + random.below(2),
+        _ => random.between(1, most),
+    };
+    length.clamp(1, most)
+}
+
+/// A good line of a given kind in one of the frames.
+fn page_of_kind(random: &mut Random, frames: &[u32], kind: u32) -> Vec<u8> {
+    let identity = identity(random, frames);
+    let text = match kind {
+        4 => {
+            let length = length(random, 60);
+            numeric_text(random, length)
+        }
+        5 => {
+            let length = length(random, 240);
+            alphanumeric_text(random, length)
+        }
+        _ => vec![],
+    };
+    line(identity, kind, &text)
+}
+
+const ALL_FRAMES: &[u32] = &[0, 1, 2, 3, 4, 5, 6, 7];
+const ALL_KINDS: &[u32] = &[0, 1, 2, 3, 4, 5];
+
+/// A good line of any kind.
+pub fn page(random: &mut Random) -> Vec<u8> {
+    let kind = random.pick(ALL_KINDS);
+    page_of_kind(random, ALL_FRAMES, kind)
+}
+
+/// `count` pages, all of these kinds and in these frames.
+pub fn pages(random: &mut Random, count: usize, frames: &[u32], kinds: &[u32]) -> Vec<u8> {
+    let mut job = Vec::new();
+    for _ in 0..count {
+        let kind = random.pick(kinds);
+        job.extend(page_of_kind(random, frames, kind));
+    }
+    job
+}
+
+/// The largest jobs: 48 alphanumeric pages of 240 characters, in one frame or in any.
+pub fn maximal(random: &mut Random, frames: &[u32]) -> Vec<u8> {
+    alphanumeric(random, 48, 240, frames)
+}
+
+/// `count` alphanumeric pages of the same length.
+pub fn alphanumeric(random: &mut Random, count: usize, length: usize, frames: &[u32]) -> Vec<u8> {
+    let mut job = Vec::new();
+    for _ in 0..count {
+        let identity = identity(random, frames);
+        job.extend(line(identity, 5, &alphanumeric_text(random, length)));
+    }
+    job
+}
+
+/// A job whose last codeword falls on the last slot of a batch, or next to it.
+fn near_the_batch_end(random: &mut Random) -> Vec<u8> {
+    let mut job = Vec::new();
+    if random.once_in(2) {
+        let count = random.between(1, 6);
+        job = pages(random, count, &[0, 1, 2], ALL_KINDS);
+    }
+    let frame = random.below(8) as u32;
+    let words = (15 - 2 * frame as usize + 16 * random.below(5) + random.below(3)).saturating_sub(1);
+    let identity = identity(random, &[frame]);
+    let last = match words {
+        0 => line(identity, random.below(4) as u32, &[]),
+        1..=12 if random.once_in(2) => line(identity, 4, &numeric_text(random, 5 * words)),
+        1..=84 => line(identity, 5, &alphanumeric_text(random, words * 20 / 7)),
+        _ => line(identity, 5, &alphanumeric_text(random, 240)),
+    };
+    job.extend(last);
+    job
+}
+
+/// A good job of any shape and size.
+pub fn good(random: &mut Random) -> Vec<u8> {
+    let frame = [random.below(8) as u32];
+    let count = match random.below(6) {
+        0 => 48,
+        1 => random.between(24, 48),
+        _ => random.between(1, 16),
+    };
+    match random.below(12) {
+        0 | 1 => page(random),
+        2 | 3 => pages(random, count, ALL_FRAMES, ALL_KINDS),
+        4 => pages(random, count, &frame, ALL_KINDS),
+        5 => {
+            let two = [frame[0], random.below(8) as u32];
+            pages(random, count, &two, ALL_KINDS)
+        }
+        6 => pages(random, count, ALL_FRAMES, &[0, 1, 2, 3]),
+        7 => pages(random, count, &frame, &[0, 1, 2, 3]),
+        8 => pages(random, count, ALL_FRAMES, &[4]),
+        9 => page(random).repeat(count),
+        10 => near_the_batch_end(random),
+        _ if random.once_in(4) => {
+            let frames = if random.once_in(2) { &frame[..] } else { ALL_FRAMES };
+            maximal(random, frames)
+        }
+        _ => pages(random, count, ALL_FRAMES, &[4, 5]),
+    }
+}
+
+/// A line that is declined with the given number from 1 to 7, and often has faults of higher numbers too.
+pub fn faulty_line(random: &mut Random, number: u32) -> Vec<u8> {
+    let mut identity = identity(random, ALL_FRAMES);
+    let mut kind = random.pick(ALL_KINDS);
+    let mut text = match kind {
+        4 => numeric_text(random, 12),
+        5 => alphanumeric_text(random, 12),
+        _ => vec![],
+    };
+    match number {
+        1 => {
+            let mut good = page(random);
+            let end = good.len() - 1;
+            match random.below(8) {
+                0 => good.truncate(random.below(8)),
+                1 => good.insert(end, b' '),
+                2 => good.insert(end, b'-'),
+                3 => good.insert(end, b'\r'),
+                4 => good[random.below(8)] = random.pick(b"/:@Gag\0\xFF"),
+                5 => good.insert(random.below(end), b' '),
+                6 => good.insert(6, b' '),
+                _ => good = format!("{:06X} {} {:05X}\n", identity, random.pick(&[6, 7]), random.word() & 0xF_FFFF).into_bytes(),
+            }
+            if !good.ends_with(b"\n") {
+                good.push(b'\n');
+            }
+            return good;
+        }
+        2 => identity = random.pick(&[0x20_0000, 0x20_0001, 0x3E_A270, 0xFF_FFFF, 0x20_0000 + identity]),
+        3 => identity = random.pick(RESERVED) + random.below(8) as u32,
+        4 => kind = random.between(6, 15) as u32,
+        5 => {
+            (kind, text) = match random.below(5) {
+                0 => (kind.min(3), vec![b'1'; random.between(1, 3)]),
+                1 => (4, vec![]),
+                2 => (4, numeric_text(random, 61)),
+                3 => (5, vec![]),
+                _ => (5, alphanumeric_text(random, 241)),
+            }
+        }
+        6 => {
+            kind = random.pick(&[4, 5]);
+            let bad = if kind == 4 { random.pick(b"*/:u()TV\x5C\x5E\0\x80\xFF") } else { random.pick(b"\0\x03\x04\x80\xFF") };
+            let most = if kind == 4 { 60 } else { 240 };
+            let length = length(random, most);
+            text = if kind == 4 { numeric_text(random, length) } else { alphanumeric_text(random, length) };
+            text[random.below(length)] = bad;
+        }
+        _ => {
+            kind = 4;
+            let length = length(random, 60);
+            text = numeric_text(random, length);
+            *text.last_mut().unwrap() = b' ';
+        }
+    }
+    // higher numbers as well
+    if matches!(number, 2 | 3) && random.once_in(3) {
+        kind = random.between(6, 15) as u32;
+    }
+    if (2..=4).contains(&number) && random.once_in(3) {
+        text = vec![random.byte(); random.pick(&[1, 61, 241, 300])];
+    }
+    if number == 5 && text.len() > 60 && random.once_in(2) {
+        let at = random.below(text.len());
+        text[at] = 0;
+    }
+    if number == 6 && kind == 4 && text.len() > 1 && random.once_in(3) {
+        *text.last_mut().unwrap() = b' ';
+        text[0] = b'*';
+    }
+    line(identity, kind, &text)
+}
+
+/// A job that is declined, or nearly so.
+pub fn bad(random: &mut Random) -> Vec<u8> {
+    match random.below(8) {
+        // one faulty line among good ones, perhaps another behind it
+        0..=2 => {
+            let before = random.pick(&[0, 0, 1, 2, 10, 46, 47, 48]);
+            let behind = random.pick(&[0, 0, 1, 2, 5]);
+            let mut job = Vec::new();
+            let numbers = (random.between(1, 7) as u32, random.between(1, 7) as u32);
+            job.extend(short_pages(random, before));
+            job.extend(faulty_line(random, numbers.0));
+            job.extend(short_pages(random, behind));
+            if random.once_in(3) {
+                job.extend(faulty_line(random, numbers.1));
+            }
+            job
+        }
+        // about 48 lines, with or without something behind
+        3 => {
+            let count = random.between(46, 50);
+            let mut job = short_pages(random, count);
+            match random.below(6) {
+                0 => {
+                    job.pop();
+                }
+                1 => job.push(b'\n'),
+                2 => job.push(random.byte()),
+                3 => {
+                    let number = random.between(1, 7) as u32;
+                    job.extend(faulty_line(random, number));
+                }
+                _ => {}
+            }
+            job
+        }
+        4 | 5 => {
+            let mut job = good(random);
+            bytes::mutate(random, &mut job);
+            job
+        }
+        6 => {
+            let mut job = good(random);
+            bytes::mutate_lines(random, &mut job);
+            job
+        }
+        _ => {
+            let mut job = page(random);
+            bytes::mutate(random, &mut job);
+            job
+        }
+    }
+}
+
+fn short_pages(random: &mut Random, count: usize) -> Vec<u8> {
+    let mut job = Vec::new();
+    for _ in 0..count {
+        let identity = identity(random, ALL_FRAMES);
+        job.extend(match random.below(3) {
+            0 => line(identity, 4, &numeric_text(random, 3)),
+            1 => line(identity, 5, &alphanumeric_text(random, 2)),
+            kind => line(identity, kind as u32, &[]),
+        });
+    }
+    job
+}
+
+/// Jobs on both sides of every limit, the same in every run.
+pub fn limits() -> Vec<Vec<u8>> {
+    let mut jobs = vec![];
+    // identities by kinds
+    let mut identities = vec![0, 1, 0x20_0000, 0x20_0001, 0x3E_A270, 0x3F_3480, 0xFF_FFFF];
+    for edge in EDGES.iter().chain(RESERVED) {
+        identities.extend(edge.saturating_sub(1)..=edge + 9);
+    }
+    for &identity in &identities {
+        for kind in 0..16 {
+            jobs.push(line(identity, kind, &[]));
+            jobs.push(line(identity, kind, b"1"));
+        }
+    }
+    // kinds by lengths, good characters and bad, with and without a space at the end
+    for kind in 0..16 {
+        for length in [0, 1, 2, 4, 5, 6, 19, 20, 21, 40, 59, 60, 61, 62, 120, 239, 240, 241, 242, 480] {
+            for fill in [b'1', b'*', b' ', 0, 3, 4, 127, 128] {
+                for last in [b'1', b' ', b'A', 0] {
+                    let mut text = vec![fill; length];
+                    if let Some(end) = text.last_mut() {
+                        *end = last;
+                    }
+                    jobs.push(line(9, kind, &text));
+                }
+            }
+        }
+    }
+    // every byte as first, inner and last character
+    for byte in 0..=255 {
+        for kind in [4, 5] {
+            for text in [[byte, b'1', b'1'], [b'1', byte, b'1'], [b'1', b'1', byte]] {
+                jobs.push(line(0x1F_FFFF, kind, &text));
+            }
+            jobs.push(line(8, kind, &[byte]));
+        }
+    }
+    // every byte put over or into every place of short lines, every byte taken out, every front
+    for model in [&b"000009 4 3132\n"[..], b"000009 0\n", b"000009 5 41\n000007 3\n"] {
+        for at in 0..=model.len() {
+            for byte in 0..=255 {
+                let mut put_in = model.to_vec();
+                put_in.insert(at, byte);
+                jobs.push(put_in);
+                if at < model.len() {
+                    let mut over = model.to_vec();
+                    over[at] = byte;
+                    jobs.push(over);
+                }
+            }
+            jobs.push(model[..at].to_vec());
+            if at < model.len() {
+                let mut without = model.to_vec();
+                without.remove(at);
+                jobs.push(without);
+            }
+        }
+    }
+    // odd digits for the kinds that only a reader prints
+    for kind in 4..8 {
+        for digits in 0..12 {
+            for end in ["\n", "-\n", " \n"] {
+                jobs.push(format!("000009 {kind} {}{end}", "1".repeat(digits)).into_bytes());
+                jobs.push(format!("000009 {kind}{}{end}", "1".repeat(digits)).into_bytes());
+            }
+        }
+    }
+    // far too long
+    jobs.push(line(9, 5, &[b'A'; 40_000]));
+    jobs.push(vec![b'A'; 70_000]);
+    jobs.push(vec![b'\n'; 70_000]);
+    jobs.push(b"000009 5 4142\n".repeat(6_000));
+    // line counts
+    for count in [0, 1, 2, 47, 48, 49, 50, 100] {
+        for one in [&b"000007 0\n"[..], b"000003 4 31\n", b"000000 5 4142\n"] {
+            let job = one.repeat(count);
+            for end in [&b""[..], b"\n", b"0", b"000007 0", b"200000 0\n", b"000007 9\n", b"\n\n", b"1EA270 0\n"] {
+                jobs.push([&job[..], end].concat());
+            }
+            if count > 0 {
+                jobs.push(job[..job.len() - 1].to_vec());
+            }
+            for bad in [&b"200000 0\n"[..], b"\n", b"000007 4 20\n"] {
+                jobs.push([bad, &job].concat());
+                jobs.push([&job[..], bad, &job].concat());
+            }
+        }
+    }
+    jobs
+}
+
+#[cfg(test)]
+mod tests {
+    use super::*;
+    use independent::job::parse;
+    use std::collections::BTreeSet;
+
+    #[test]
+    fn good_jobs_are_accepted() {
+        let mut random = Random::new(1);
+        let mut counts = BTreeSet::new();
+        for _ in 0..3000 {
+            let job = good(&mut random);
+            counts.insert(parse(&job).unwrap().len());
+        }
+        assert!(counts.contains(&1) && counts.contains(&48) && counts.len() > 30);
+    }
+
+    #[test]
+    fn faulty_lines_have_their_number() {
+        let mut random = Random::new(2);
+        for number in 1..=7 {
+            for _ in 0..500 {
+                let line = faulty_line(&mut random, number);
+                let refusal = parse(&line).unwrap_err();
+                assert_eq!(refusal.number, number, "{:?}", String::from_utf8_lossy(&line));
+            }
+        }
+    }
+
+    #[test]
+    fn every_refusal_is_met() {
+        let mut random = Random::new(3);
+        let mut met = BTreeSet::new();
+        for _ in 0..3000 {
+            met.insert(parse(&bad(&mut random)).map_or_else(|refusal| refusal.number, |_| 0));
+        }
+        assert!((0..=8).all(|number| met.contains(&number)), "{met:?}");
+        let met: BTreeSet<u32> = limits().iter().map(|job| parse(job).map_or_else(|refusal| refusal.number, |_| 0)).collect();
+        assert_eq!(met, (0..=9).collect());
+    }
+
+    #[test]
+    fn the_largest_jobs() {
+        let mut random = Random::new(4);
+        for frame in 0..8 {
+            let pages = parse(&maximal(&mut random, &[frame])).unwrap();
+            assert_eq!(pages.len(), 48);
+            assert!(pages.iter().all(|page| page.message_words() == 84));
+        }
+    }
+}

@@ -1,0 +1,243 @@
+//! One input to the library and to the independent implementation: both must give the same answer and leave the same buffers.
+
+use crate::lent::Lent;
+use generate::{buffer_length, Random};
+use independent::send::Accepted;
+use independent::{codeword, reader, send, Refusal};
+use std::collections::BTreeMap;
+
+/// What was found to differ, ready to be printed.
+pub struct Difference(pub String);
+
+pub type Outcome = Result<(), Difference>;
+
+/// Counts comparisons by what was called and the number it answered, and keeps the random state of the buffers.
+pub struct Comparison {
+    pub counts: BTreeMap<(&'static str, u32), u64>,
+    pub random: Random,
+}
+
+impl Comparison {
+    pub fn new(seed: u64) -> Self {
+        Comparison { counts: BTreeMap::new(), random: Random::new(seed ^ 0x5EED_0FB0_FFE5) }
+    }
+
+    pub fn count(&mut self, what: &'static str, number: u32) {
+        *self.counts.entry((what, number)).or_default() += 1;
+    }
+
+    pub fn correct(&mut self, word: u32) -> Outcome {
+        let expected = match codeword::correct(word) {
+            Some(word) => card::Word { word, number: 0 },
+            None => card::Word { word, number: 20 },
+        };
+        let got = card::correct(word);
+        if got != expected {
+            return differs("correct", got, expected, &format!("word {word:08X}"));
+        }
+        self.count("correct", expected.number);
+        Ok(())
+    }
+
+    /// A job sent as words and listed, each with buffers of several lengths, and stepped through.
+    pub fn job(&mut self, job: &[u8]) -> Outcome {
+        let (words, pages) = match Accepted::new(job) {
+            Ok(accepted) => (accepted.placement.words(), accepted.pages.len()),
+            Err(_) => (self.random.below(60), self.random.below(60)),
+        };
+        self.send(job, words, pages)?;
+        let lengths = (buffer_length(&mut self.random, words), buffer_length(&mut self.random, pages));
+        self.send(job, lengths.0, lengths.1)?;
+        self.list(job, 9 * words)?;
+        let length = buffer_length(&mut self.random, 9 * words);
+        self.list(job, length)?;
+        self.steps(job)
+    }
+
+    /// Sends with buffers of the given lengths.
+    pub fn send(&mut self, job: &[u8], words_length: usize, slots_length: usize) -> Outcome {
+        let words_before: Lent<u32> = Lent::new(&mut self.random, words_length);
+        let slots_before: Lent<u32> = Lent::new(&mut self.random, slots_length);
+        let (mut words, mut slots) = (words_before.clone(), slots_before.clone());
+        let (mut words_got, mut slots_got) = (words_before.clone(), slots_before.clone());
+        let expected = match send::send(job, words.slice(), slots.slice()) {
+            Ok(report) => card::Report { place: 0, number: 0, batches: report.batches, words: report.words },
+            Err(Refusal { number, place }) => card::Report { place, number, batches: 0, words: 0 },
+        };
+        if expected.number != 0 {
+            (words, slots) = (words_before, slots_before);
+        }
+        let got = card::send(job, words_got.slice(), slots_got.slice());
+        let input = || format!("words {words_length}, slots {slots_length}, job:\n{}", shown(job));
+        if got != expected {
+            return differs("send", got, expected, &input());
+        }
+        same_buffer("send, words", &words_got, &words, input)?;
+        same_buffer("send, slots", &slots_got, &slots, input)?;
+        self.count("send", expected.number);
+        Ok(())
+    }
+
+    /// Lists into a buffer of the given length.
+    pub fn list(&mut self, job: &[u8], length: usize) -> Outcome {
+        let before: Lent<u8> = Lent::new(&mut self.random, length);
+        let (mut out, mut out_got) = (before.clone(), before.clone());
+        let expected = match send::list(job, out.slice()) {
+            Ok(bytes) => card::Bytes { place: 0, bytes, number: 0 },
+            Err(Refusal { number, place }) => card::Bytes { place, bytes: 0, number },
+        };
+        if expected.number != 0 {
+            out = before;
+        }
+        let got = card::list(job, out_got.slice());
+        let input = || format!("out {length}, job:\n{}", shown(job));
+        if got != expected {
+            return differs("list", got, expected, &input());
+        }
+        same_buffer("list", &out_got, &out, input)?;
+        self.count("list", expected.number);
+        Ok(())
+    }
+
+    /// Reads a slice of words, with buffers of several lengths.
+    pub fn words(&mut self, words: &[u32]) -> Outcome {
+        let exact = reader::log_of_words(words).map_or_else(|_| self.random.below(100), |log| log.lines.len());
+        let other = buffer_length(&mut self.random, exact);
+        for length in [exact, other] {
+            let input = || format!("out {length}, words:\n{}", shown_words(words));
+            let number = self.read(length, input, |out| reader::read_words(words, out), |out| card::read_words(words, out))?;
+            self.count("read words", number);
+        }
+        Ok(())
+    }
+
+    /// Reads a listing, with buffers of several lengths.
+    pub fn listing(&mut self, listing: &[u8]) -> Outcome {
+        let exact = reader::log_of_listing(listing).map_or_else(|_| self.random.below(100), |log| log.lines.len());
+        let other = buffer_length(&mut self.random, exact);
+        for length in [exact, other] {
+            let input = || format!("out {length}, listing:\n{}", shown(listing));
+            let number =
+                self.read(length, input, |out| reader::read_listing(listing, out), |out| card::read_listing(listing, out))?;
+            self.count("read listing", number);
+        }
+        Ok(())
+    }
+
+    fn read(
+        &mut self,
+        length: usize,
+        input: impl Fn() -> String,
+        independent: impl FnOnce(&mut [u8]) -> Result<reader::Reading, Refusal>,
+        library: impl FnOnce(&mut [u8]) -> card::Reading,
+    ) -> Result<u32, Difference> {
+        let before: Lent<u8> = Lent::new(&mut self.random, length);
+        let (mut out, mut out_got) = (before.clone(), before.clone());
+        let expected = match independent(out.slice()) {
+            Ok(reader::Reading { bytes, pages, lost, orphans }) => {
+                card::Reading { place: 0, bytes, number: 0, pages, lost, orphans }
+            }
+            Err(Refusal { number, place }) => card::Reading { place, bytes: 0, number, pages: 0, lost: 0, orphans: 0 },
+        };
+        if expected.number != 0 {
+            out = before;
+        }
+        let got = library(out_got.slice());
+        if got != expected {
+            differs("read", got, expected, &input())?;
+        }
+        same_buffer("read", &out_got, &out, input)?;
+        Ok(expected.number)
+    }
+
+    /// A job's steps, to the end and somewhat further: the words that sending writes, then done, with the state unchanged.
+    #[cfg(feature = "steps")]
+    pub fn steps(&mut self, job: &[u8]) -> Outcome {
+        use card::steps::{Sender, Step};
+        let input = || format!("job:\n{}", shown(job));
+        let (mut sender, words) = match (Sender::start(job), Accepted::new(job)) {
+            (Ok(sender), Ok(accepted)) => (sender, accepted.words()),
+            (Err(got), Err(Refusal { number, place })) if got == (number, place) => {
+                self.count("start", number);
+                return Ok(());
+            }
+            (got, expected) => {
+                let got = got.err().unwrap_or((0, 0));
+                let expected = expected.err().map_or((0, 0), |refusal| (refusal.number, refusal.place));
+                return differs("start", got, expected, &input());
+            }
+        };
+        self.count("start", 0);
+        for (i, &word) in words.iter().enumerate() {
+            let got = sender.step();
+            if got != Step::Word(word) {
+                return differs(&format!("step {i}"), got, Step::Word(word), &input());
+            }
+            self.count("step", 0);
+        }
+        for further in 0..3 {
+            let before = sender.clone();
+            let got = sender.step();
+            if got != Step::Done {
+                return differs(&format!("step {further} past the last"), got, Step::Done, &input());
+            }
+            if sender != before {
+                return Err(Difference(format!("step {further} past the last alters the state\n{}", input())));
+            }
+            self.count("step past the last", 0);
+        }
+        Ok(())
+    }
+
+    /// The header has no steps yet: see the file steps.rs of the crate card.
+    #[cfg(not(feature = "steps"))]
+    pub fn steps(&mut self, _job: &[u8]) -> Outcome {
+        Ok(())
+    }
+
+    /// The independent implementation alone: its own steps, and what is read from a damaged transmission is what was sent.
+    pub fn round_trip(&mut self, job: &[u8]) -> Outcome {
+        let accepted = Accepted::new(job).map_err(|refusal| Difference(format!("{refusal:?} for a good job\n{}", shown(job))))?;
+        let words = accepted.words();
+        if !send::Sender::start(job).is_ok_and(|sender| sender.eq(words.iter().copied())) {
+            return Err(Difference(format!("independent: the steps aren't the words\n{}", shown(job))));
+        }
+        let mut order: Vec<usize> = (0..accepted.pages.len()).collect();
+        order.sort_by_key(|&page| accepted.placement.slots[page]);
+        let mut lines = Vec::new();
+        order.iter().for_each(|&page| accepted.pages[page].print(&mut lines));
+        let expected = reader::Log { lines, pages: accepted.pages.len() as u32, lost: 0, orphans: 0 };
+
+        let mut batches = words[18..].to_vec();
+        generate::words::damage(&mut self.random, &mut batches, generate::words::Damage::Light);
+        let listing = generate::listings::listing(9, 0xAAAA_AAAA, &batches);
+        for log in [reader::log_of_words(&batches), reader::log_of_listing(&listing)] {
+            if log.as_ref() != Ok(&expected) {
+                return differs("independent: round trip", log, expected, &format!("job:\n{}", shown(job)));
+            }
+        }
+        self.count("round trip of independent alone", 0);
+        Ok(())
+    }
+}
+
+pub fn differs(what: &str, got: impl std::fmt::Debug, expected: impl std::fmt::Debug, input: &str) -> Outcome {
+    Err(Difference(format!("{what}: got {got:?}\nexpected {expected:?}\n{input}")))
+}
+
+fn same_buffer<T: crate::lent::Unit>(what: &str, got: &Lent<T>, expected: &Lent<T>, input: impl Fn() -> String) -> Outcome {
+    match got.difference(expected) {
+        Some(difference) => Err(Difference(format!("{what}: the buffer {difference}\n{}", input()))),
+        None => Ok(()),
+    }
+}
+
+/// Bytes so that one sees them: a line's end is shown and kept.
+pub fn shown(bytes: &[u8]) -> String {
+    bytes.escape_ascii().to_string().replace("\\n", "\\n\n")
+}
+
+fn shown_words(words: &[u32]) -> String {
+    let lines: Vec<String> = words.chunks(17).map(|batch| batch.iter().map(|word| format!("{word:08X} ")).collect()).collect();
+    lines.join("\n")
+}

@@ -1,0 +1,163 @@
+//! The wide comparison: the library and the independent implementation on the same generated inputs.
+//!
+//!     wide [ROUNDS [SEED [SENDING_PROGRAM READING_PROGRAM]]]
+//!
+//! Prints how many comparisons it made of each sort; at the first difference prints the input and both answers and ends with 1.
+//! What is compared: the answer, every unit of every lent buffer and the sentinels around it, and, for a declined call, that
+//! the buffers are as before.
+
+mod compare;
+mod lent;
+mod programs;
+
+use compare::{Comparison, Difference, Outcome};
+use generate::{jobs, listings, words, Random};
+use independent::codeword::{address, message, IDLE, SYNC};
+use programs::Programs;
+use std::process::ExitCode;
+
+const ROUNDS: u64 = 3000;
+const SEED: u64 = 1;
+
+fn main() -> ExitCode {
+    let arguments: Vec<String> = std::env::args().skip(1).collect();
+    let number = |at: usize, default: u64| arguments.get(at).map_or(Ok(default), |text| text.parse());
+    let (Ok(rounds), Ok(seed)) = (number(0, ROUNDS), number(1, SEED)) else {
+        eprintln!("wide [ROUNDS [SEED [SENDING_PROGRAM READING_PROGRAM]]]");
+        return ExitCode::from(2);
+    };
+    let programs = match &arguments[arguments.len().min(2)..] {
+        [sending, reading] => Some(Programs { sending: sending.clone(), reading: reading.clone() }),
+        [] => None,
+        _ => {
+            eprintln!("both programs are needed");
+            return ExitCode::from(2);
+        }
+    };
+    println!("{rounds} rounds, seed {seed}");
+    if card::STAND_IN {
+        println!("STAND-IN: the library is not linked, the independent implementation is compared with itself");
+    }
+    let mut comparison = Comparison::new(seed);
+    let outcome = run(&mut comparison, rounds, seed, programs.as_ref());
+    print_counts(&comparison);
+    match outcome {
+        Ok(()) => {
+            println!("no difference in {} comparisons", comparison.counts.values().sum::<u64>());
+            ExitCode::SUCCESS
+        }
+        Err(Difference(text)) => {
+            println!("DIFFERENCE\n{text}");
+            ExitCode::FAILURE
+        }
+    }
+}
+
+fn run(comparison: &mut Comparison, rounds: u64, seed: u64, programs: Option<&Programs>) -> Outcome {
+    limits(comparison)?;
+    if let Some(programs) = programs {
+        programs.limits(comparison)?;
+    }
+    for number in 0..rounds {
+        // each round can be had alone by its own seed
+        let mut random = Random::new(seed.wrapping_mul(0x1_0000_0000).wrapping_add(number));
+        round(comparison, &mut random)
+            .and_then(|()| programs.map_or(Ok(()), |programs| programs.round(comparison, &mut random)))
+            .map_err(|Difference(text)| Difference(format!("round {number} of seed {seed}\n{text}")))?;
+    }
+    Ok(())
+}
+
+/// Inputs that are the same in every run.
+fn limits(comparison: &mut Comparison) -> Outcome {
+    for codeword in [0, SYNC, IDLE, u32::MAX, address(0x1F_FFFF, 3), message(0), message(0x84333)] {
+        all_near(comparison, codeword)?;
+    }
+    for job in jobs::limits() {
+        comparison.job(&job)?;
+    }
+    for listing in listings::limits() {
+        comparison.listing(&listing)?;
+    }
+    for words in words::slice_limits() {
+        comparison.words(&words)?;
+    }
+    // every pair of buffer lengths about the exact ones, and every length of a short answer
+    for job in [&b"000009 4 3132\n"[..], b"000007 0\n000007 1\n00000F 4 31\n"] {
+        for words in 0..56 {
+            for slots in 0..5 {
+                comparison.send(job, words, slots)?;
+            }
+        }
+        for bytes in 0..480 {
+            comparison.list(job, bytes)?;
+        }
+    }
+    // the largest jobs
+    let mut random = Random::new(0);
+    for frame in 0..8 {
+        let job = jobs::maximal(&mut random, &[frame]);
+        comparison.job(&job)?;
+        comparison.send(&job, card::WORDS, card::PAGES)?;
+        comparison.list(&job, card::LISTING_BYTES)?;
+        comparison.round_trip(&job)?;
+    }
+    Ok(())
+}
+
+/// A word with every pattern of at most three wrong bits.
+fn all_near(comparison: &mut Comparison, word: u32) -> Outcome {
+    comparison.correct(word)?;
+    for i in 0..32 {
+        comparison.correct(word ^ 1 << i)?;
+        for j in 0..i {
+            comparison.correct(word ^ 1 << i ^ 1 << j)?;
+            for k in 0..j {
+                comparison.correct(word ^ 1 << i ^ 1 << j ^ 1 << k)?;
+            }
+        }
+    }
+    Ok(())
+}
+
+fn round(comparison: &mut Comparison, random: &mut Random) -> Outcome {
+    let near = words::codeword(random);
+    all_near(comparison, near)?;
+    for _ in 0..2000 {
+        comparison.correct(random.word())?;
+        let flips = random.below(5) as u32;
+        let near = words::codeword(random) ^ random.ones(flips);
+        comparison.correct(near)?;
+    }
+    for _ in 0..10 {
+        let job = jobs::good(random);
+        comparison.job(&job)?;
+        comparison.round_trip(&job)?;
+    }
+    for _ in 0..40 {
+        comparison.job(&jobs::bad(random))?;
+    }
+    for _ in 0..20 {
+        comparison.listing(&listings::any(random))?;
+        comparison.words(&words::slice(random))?;
+    }
+    Ok(())
+}
+
+/// How many comparisons there were of each call, by the number that it answered.
+fn print_counts(comparison: &Comparison) {
+    let mut last = "";
+    for ((what, number), count) in &comparison.counts {
+        if *what != last {
+            println!("{what}");
+            last = what;
+        }
+        match number {
+            0 => println!("    answered     {count:>12}"),
+            _ => println!("    declined, {number:>2} {count:>12}"),
+        }
+    }
+    if !cfg!(feature = "steps") {
+        println!("steps of the library\n    not compared: not in the header yet");
+    }
+}

@@ -1,0 +1,24 @@
+//! The comparison finds each mistake that the stand-in can make, and none where it makes none.
+#![cfg(feature = "stand-in")]
+
+use std::process::{Command, Output};
+
+fn wide(fault: &str) -> Output {
+    Command::new(env!("CARGO_BIN_EXE_wide")).args(["5", "1"]).env("CARD_FAULT", fault).output().expect("wide runs")
+}
+
+#[test]
+fn without_a_mistake() {
+    let output = wide("");
+    assert!(output.status.success(), "{}", String::from_utf8_lossy(&output.stdout));
+}
+
+#[test]
+fn with_each_mistake() {
+    for fault in card::stand_in::FAULTS {
+        let output = wide(fault);
+        let text = String::from_utf8_lossy(&output.stdout);
+        assert_eq!(output.status.code(), Some(1), "{fault} isn't found");
+        assert!(text.contains("DIFFERENCE"), "{fault}: {text}");
+    }
+}
