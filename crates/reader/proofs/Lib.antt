@@ -1,2 +1,5 @@
 pub mod SymbolLaws
 pub mod AnswerLaws
+pub mod Blocks
+pub mod PageLaws
+pub mod OverLaws

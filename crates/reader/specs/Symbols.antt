@@ -1,9 +1,9 @@
 -- How the code keeps what a slot's word says: in one number, its symbol. No public promise needs this.
-use mathlib.Core.Bool.{Bool, false, cond}
+use mathlib.Core.Bool.{false, cond}
 use mathlib.Core.List.{List, map}
-use Prim.Native.Nat.{ℕ, zero, suc, _+_, _-_, _*_, _/_, _%_, _^_}
+use Prim.Native.Nat.{ℕ, zero, suc, _+_, _-_, _*_, _/_, _%_, _^_, _≤_, _<_}
 use lib.Dec.{eqb, ltb}
-use lib.ListN.{getD, take, drop}
+use lib.ListN.{length, getD, take, drop}
 use Rattle.codeword.specs.Code.{idle}
 use Rattle.placement.specs.Placement.{frameOf}
 use Rattle.reader.specs.Reading.{Hearing, State, hear, silent}
@@ -34,3 +34,11 @@ pageIn symbols a s = record {
   groups = groupsSaid (take (s - (a + 1)) (drop (a + 1) symbols));
   cut = false;
 }
+
+-- the page's slots are there, its first symbol is an address, and there is room for its digits and for its line
+pub record Printable (symbols : List ℕ) (a s digits room : ℕ) : Type 0 where
+  pub behind : a < s
+  pub inside : s ≤ length symbols
+  pub address : getD symbols a 0 < 2 ^ 20
+  pub written : 10 * (s - a) ≤ digits
+  pub printed : 11 * (s - a) ≤ room

@@ -2,14 +2,20 @@
 ghost use mathlib.Core.Path.{_≡_};
 ghost use Prim.Native.Nat.{ℕ, _+_, _*_, _/_, _≤_, _<_};
 ghost use lib.ListN.{length, getD};
+ghost use Rattle.base.specs.Hex.{pairsOf};
+ghost use Rattle.base.specs.Lists.{over};
 ghost use Rattle.codeword.specs.Nearest.{nearest};
 ghost use Rattle.codeword.specs.Table.{WrongBitsTable};
+ghost use Rattle.text.specs.Heard.{heardText};
 ghost use Rattle.reader.specs.Meaning.{codewordMeaning, meaning, isSync};
-ghost use Rattle.reader.specs.Reading.{slotWord};
+ghost use Rattle.reader.specs.Reading.{slotWord, closedAs};
+ghost use Rattle.reader.specs.Lines.{kindHeard, fives, digitsHeard, lineHeard};
 ghost use Rattle.reader.specs.Answers.{firstUnsynced};
-ghost use Rattle.reader.specs.Symbols.{said};
+ghost use Rattle.reader.specs.Symbols.{said, pageIn, Printable};
 use codeword::Codeword;
 use codeword::Correction;
+use job::Printing;
+use text::Coding;
 
 // What a received word says.
 pub enum Meaning {
@@ -127,4 +133,96 @@ fn read_slots(table: &[u16; 1024], words: &[u32], symbols: &mut [u32])
         symbols[s] = read_word(table, words[17 * (s / 16) + 1 + s % 16]);
         s += 1;
     }
+}
+
+// Writes the characters of groups as pairs of digits, and answers how many digits they are.
+fn write_text(coding: Coding, groups: &[u32], digits: &mut [u8]) -> usize
+    requires { ⌜ 10 * length (now groups) ≤ length (now digits) ⌝ }
+    ensures { λ r. ⌜ r ≡ length (pairsOf (heardText coding (now (groups .entry)))) ⌝ }
+    ensures { λ _. ⌜ now (digits .exit) ≡ over (now (digits .entry)) (pairsOf (heardText coding (now (groups .entry)))) ⌝ }
+{
+    let n = text::heard_length(coding, groups);
+    let mut i = 0;
+    while i < n {
+        let start = 2 * i;
+        let end = start + 2;
+        base::write_digits(
+            &mut digits[start..end],
+            text::heard_char(coding, groups, i) as u32,
+        );
+        i += 1;
+    }
+    2 * n
+}
+
+// Writes five digits a group, and answers how many digits they are.
+fn write_groups(groups: &[u32], digits: &mut [u8]) -> usize
+    requires { ⌜ 5 * length (now groups) ≤ length (now digits) ⌝ }
+    ensures { λ r. ⌜ r ≡ length (fives (now (groups .entry))) ⌝ }
+    ensures { λ _. ⌜ now (digits .exit) ≡ over (now (digits .entry)) (fives (now (groups .entry))) ⌝ }
+{
+    let n = groups.len();
+    let mut i = 0;
+    while i < n {
+        let start = 5 * i;
+        let end = start + 5;
+        base::write_digits(&mut digits[start..end], groups[i]);
+        i += 1;
+    }
+    5 * n
+}
+
+// Writes the digits of a page's text, and answers how many they are.
+fn write_page(function: u8, groups: &[u32], digits: &mut [u8]) -> usize
+    requires { ⌜ 10 * length (now groups) ≤ length (now digits) ⌝ }
+    ensures { λ r. ⌜ r ≡ length (digitsHeard function (now (groups .entry))) ⌝ }
+    ensures { λ _. ⌜ now (digits .exit) ≡ over (now (digits .entry)) (digitsHeard function (now (groups .entry))) ⌝ }
+{
+    match function {
+        0 => write_text(Coding::Numeric, groups, digits),
+        3 => write_text(Coding::Alphanumeric, groups, digits),
+        _ => write_groups(groups, digits),
+    }
+}
+
+// A page's kind, by its function and its groups.
+fn kind(function: u8, groups: &[u32]) -> u8
+    requires { ⌜ function < 4 ⌝ }
+    ensures { λ r. ⌜ r ≡ kindHeard function (now (groups .entry)) ⌝ }
+{
+    if groups.len() == 0 {
+        return function;
+    }
+    match function {
+        0 => 4,
+        3 => 5,
+        _ => function + 5,
+    }
+}
+
+// Prints the line of the page whose address is in slot a and whose message words fill the slots from there to slot s, over the front
+// of the bytes, and answers its length. The digits of its text are written over the front of the lent digits.
+fn print_page(
+    symbols: &[u32],
+    a: usize,
+    s: usize,
+    cut: bool,
+    digits: &mut [u8],
+    out: &mut [u8],
+) -> usize
+    requires { ⌜ Printable (now symbols) a s (length (now digits)) (length (now out)) ⌝ }
+    ensures { λ r. ⌜ r ≡ length (lineHeard (closedAs cut (pageIn (now (symbols .entry)) a s))) ⌝ }
+    ensures { λ _. ⌜ now (out .exit) ≡ over (now (out .entry)) (lineHeard (closedAs cut (pageIn (now (symbols .entry)) a s))) ⌝ }
+{
+    let address = symbols[a];
+    let function = (address % 4) as u8;
+    let identity = address / 4 * 8 + (a % 16 / 2) as u32;
+    let first = a + 1;
+    let groups = &symbols[first..s];
+    let n = write_page(function, groups, digits);
+    let kind = kind(function, groups);
+    let Printing::Printed(bytes) = job::print_line(out, identity, kind, &digits[..n], cut) else {
+        return 0;
+    };
+    bytes
 }

@@ -1,0 +1,151 @@
+-- A heard page's kind, text and line: case by case, as the code goes, how long they are, and that a message word's symbol will do for its group.
+-- Assumes nothing.
+use mathlib.Core.Path.{_≡_, refl, sym, ap, ap₂, _∙_}
+use mathlib.Core.Bool.{Bool, true, false, cond}
+use mathlib.Core.List.{List, [], _∷_, _++_, map}
+use mathlib.Core.Logic.{⊎-elim}
+use Prim.Native.Nat.{ℕ, zero, suc, _+_, _-_, _*_, _/_, _%_, _^_, _≤_, _<_}
+use native.Mathlib.Omega.{arith}
+use lib.Dec.{eqb}
+use lib.Pow.{field, mod-mod-pow}
+use lib.ListN.{length, getD, take, drop, length-drop, length-map, List·getD-map}
+use lib.Seq.{length-take-le}
+use borrow.Author.Tests.{le-ltb}
+use Rattle.base.specs.Hex.{digitOf, digitsOf, pairsOf}
+use Rattle.base.specs.Lists.{over, tab}
+use Rattle.base.proofs.Bools.{either}
+use Rattle.base.proofs.ListLaws.{tab-same}
+use Rattle.text.specs.Coding.{widthOf}
+use Rattle.text.specs.Heard.{bitIn, fromLow, charHeard, shown, charsIn, wholeIn, trimmed, untilEnd, heardText}
+use Rattle.text.specs.declared.Coding.{Coding}
+use Rattle.text.specs.declared.Coding.the-variants.{Numeric, Alphanumeric}
+use Rattle.text.proofs.BitLaws.{low-same, cut-bit}
+use Rattle.text.proofs.HeardLaws.{heard-fits}
+use Rattle.job.specs.Print.{printed, printingOf, written}
+use Rattle.job.specs.declared.Printing.{Printing}
+use Rattle.job.specs.declared.Printing.the-variants.{Printed, NoRoom}
+use Rattle.job.proofs.PrintLaws.{spaced-few, ending-few, printed-length}
+use Rattle.placement.specs.Placement.{frameOf}
+use Rattle.reader.specs.Reading.{closedAs}
+use Rattle.reader.specs.Lines.{kindHeard, fives, digitsHeard, lineHeard}
+use Rattle.reader.specs.Symbols.{groupsSaid, pageIn}
+use Rattle.reader.proofs.Blocks.{pairs-length, fives-length}
+
+-- ---- the kind
+
+pub kind-none : (f : ℕ) (gs : List ℕ) → length gs ≡ 0 → f ≡ kindHeard f gs
+kind-none f [] h = refl
+kind-none f (g ∷ gs) h = absurd (omega arith)
+
+pub kind-some : (f : ℕ) (gs : List ℕ) → 0 < length gs → cond (eqb f 0) 4 (cond (eqb f 3) 5 (f + 5)) ≡ kindHeard f gs
+kind-some f [] h = absurd (omega arith)
+kind-some f (g ∷ gs) h = refl
+
+-- ---- how long the text and the line are
+
+-- at most five characters a group
+pub text-short : (c : Coding) (gs : List ℕ) → length (heardText c gs) ≤ 5 * length gs
+text-short Numeric gs = omega (arith, heard-fits Numeric gs)
+text-short Alphanumeric gs = omega (arith, heard-fits Alphanumeric gs)
+
+pairs-short : (c : Coding) (gs : List ℕ) → length (pairsOf (heardText c gs)) ≤ 10 * length gs
+pairs-short c gs = omega (arith, pairs-length (heardText c gs), text-short c gs)
+
+pub digits-short : (f : ℕ) (gs : List ℕ) → length (digitsHeard f gs) ≤ 10 * length gs
+digits-short f gs = go (eqb f 0) (eqb f 3)
+  where
+    go : (x y : Bool) → length (cond x (pairsOf (heardText Numeric gs)) (cond y (pairsOf (heardText Alphanumeric gs)) (fives gs))) ≤ 10 * length gs
+    go true y = pairs-short Numeric gs
+    go false true = pairs-short Alphanumeric gs
+    go false false = omega (arith, fives-length gs)
+
+-- eleven bytes for each slot of the page
+pub line-short : (identity kind f : ℕ) (gs : List ℕ) (cut : Bool) → length (printed identity kind (digitsHeard f gs) cut) ≤ 11 * (length gs + 1)
+line-short identity kind f gs cut =
+    let ds = digitsHeard f gs in
+    omega (arith, printed-length identity kind ds cut, spaced-few ds, ending-few cut, digits-short f gs)
+
+-- ---- a message word's symbol in the place of its group
+
+bit-said : (xs : List ℕ) (p : ℕ) → bitIn (groupsSaid xs) p ≡ bitIn xs p
+bit-said xs p =
+    ap (λ (g : ℕ). g / 2 ^ (19 - p % 20) % 2) (List·getD-map (λ x. x % 2 ^ 20) xs (p / 20) 0)
+    ∙ cut-bit (getD xs (p / 20) 0) 20 (19 - p % 20) (omega arith)
+
+char-said : (c : Coding) (xs : List ℕ) (i : ℕ) → charHeard c (groupsSaid xs) i ≡ charHeard c xs i
+char-said c xs i =
+    ap (shown c) (low-same (λ b. bitIn (groupsSaid xs) (widthOf c * i + b)) (λ b. bitIn xs (widthOf c * i + b)) (widthOf c) (λ b h. bit-said xs (widthOf c * i + b)))
+
+chars-said : (c : Coding) (xs : List ℕ) → charsIn c (groupsSaid xs) ≡ charsIn c xs
+chars-said c xs =
+    ap (λ (n : ℕ). tab (charHeard c (groupsSaid xs)) (wholeIn c n)) (length-map xs (λ x. x % 2 ^ 20))
+    ∙ tab-same (charHeard c (groupsSaid xs)) (charHeard c xs) (wholeIn c (length xs)) (λ i h. char-said c xs i)
+
+text-said : (c : Coding) (xs : List ℕ) → heardText c (groupsSaid xs) ≡ heardText c xs
+unfolding heardText
+text-said Numeric xs = ap trimmed (chars-said Numeric xs)
+text-said Alphanumeric xs = ap untilEnd (chars-said Alphanumeric xs)
+
+digit-said : (x j k : ℕ) → x % 2 ^ (j + 4 + k) / 2 ^ k % 16 ≡ x / 2 ^ k % 16
+digit-said x j k = ap (λ (y : ℕ). y % 16) (field x (j + 4) k) ∙ mod-mod-pow (x / 2 ^ k) j 4
+
+five-said : (x : ℕ) → digitsOf 5 (x % 2 ^ 20) ≡ digitsOf 5 x
+unfolding digitsOf
+five-said x = rw (digit-said x 0 16, digit-said x 4 12, digit-said x 8 8, digit-said x 12 4, digit-said x 16 0)
+
+fives-said : (xs : List ℕ) → fives (groupsSaid xs) ≡ fives xs
+unfolding fives
+fives-said [] = refl
+fives-said (x ∷ xs) = ap₂ _++_ (five-said x) (fives-said xs)
+
+pub digits-said : (f : ℕ) (xs : List ℕ) → digitsHeard f (groupsSaid xs) ≡ digitsHeard f xs
+digits-said f xs = simp (text-said Numeric xs, text-said Alphanumeric xs, fives-said xs)
+
+pub kind-said : (f : ℕ) (xs : List ℕ) → kindHeard f (groupsSaid xs) ≡ kindHeard f xs
+kind-said f [] = refl
+kind-said f (x ∷ xs) = refl
+
+-- ---- the page in slots a to s
+
+module _ (symbols : List ℕ) (a s : ℕ) (cut : Bool) where
+  abbrev address : ℕ
+  address = getD symbols a 0
+
+  -- the symbols of its message words
+  abbrev words : List ℕ
+  words = take (s - (a + 1)) (drop (a + 1) symbols)
+
+  abbrev line : List ℕ
+  line = lineHeard (closedAs cut (pageIn symbols a s))
+
+  pub page-line : {kind : ℕ} {digits : List ℕ} → kind ≡ kindHeard (address % 4) words → digits ≡ digitsHeard (address % 4) words
+      → printed (address / 4 * 8 + frameOf a) kind digits cut ≡ line
+  page-line e d =
+      ap₂ (λ (k : ℕ) (ds : List ℕ). printed (address / 4 * 8 + frameOf a) k ds cut) (e ∙ sym (kind-said (address % 4) words)) (d ∙ sym (digits-said (address % 4) words))
+
+  module _ (behind : a < s) (inside : s ≤ length symbols) where
+    count : length words ≡ s - (a + 1)
+    count = length-take-le (s - (a + 1)) (drop (a + 1) symbols) (omega (arith, length-drop (a + 1) symbols))
+
+    pub page-short : length line ≤ 11 * (s - a)
+    page-short =
+        omega (
+          arith,
+          line-short (address / 4 * 8 + frameOf a) (kindHeard (address % 4) (groupsSaid words)) (address % 4) (groupsSaid words) cut,
+          length-map words (λ x. x % 2 ^ 20),
+          count,
+        )
+
+-- a line that there is room for is printed
+pub line-printed : (old line : List ℕ) {given out : List ℕ} {answer : Printing} → length line ≤ length old → given ≡ line
+    → answer ≡ printingOf (length old) given → out ≡ over old (written answer given) → (answer ≡ Printed (length line)) × (out ≡ over old line)
+line-printed old line h e a o =
+    let printed : printingOf (length old) line ≡ Printed (length line) = rw (le-ltb (length old) (length line) h) in
+    let all = a ∙ ap (printingOf (length old)) e ∙ printed in
+    (all, o ∙ ap (over old) (ap₂ written all e))
+
+pub no-room-printed : {n : ℕ} → NoRoom ≡ Printed n → ⊥
+no-room-printed e = let z : _≡_ {A = ℕ} 0 1 = cc in omega arith
+
+pub bytes-printed : {m n : ℕ} → Printed m ≡ Printed n → m ≡ n
+bytes-printed e = cc
