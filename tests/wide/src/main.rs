@@ -1,8 +1,9 @@
 //! The wide comparison: the library and the independent implementation on the same generated inputs.
 //!
 //!     wide [ROUNDS [SEED [SENDING_PROGRAM READING_PROGRAM]]]
+//!     wide all-words
 //!
-//! Prints how many comparisons it made of each sort; at the first difference prints the input and both answers and ends with 1.
+//! The second corrects every 32-bit word and compares nothing else. Prints how many comparisons it made of each sort; at the first difference prints the input and both answers and ends with 1.
 //! What is compared: the answer, every unit of every lent buffer and the sentinels around it, and, for a declined call, that
 //! the buffers are as before.
 
@@ -21,9 +22,13 @@ const SEED: u64 = 1;
 
 fn main() -> ExitCode {
     let arguments: Vec<String> = std::env::args().skip(1).collect();
+    if arguments == ["all-words"] {
+        say_if_stand_in();
+        return all_words();
+    }
     let number = |at: usize, default: u64| arguments.get(at).map_or(Ok(default), |text| text.parse());
     let (Ok(rounds), Ok(seed)) = (number(0, ROUNDS), number(1, SEED)) else {
-        eprintln!("wide [ROUNDS [SEED [SENDING_PROGRAM READING_PROGRAM]]]");
+        eprintln!("wide [ROUNDS [SEED [SENDING_PROGRAM READING_PROGRAM]]], or wide all-words");
         return ExitCode::from(2);
     };
     let programs = match &arguments[arguments.len().min(2)..] {
@@ -35,9 +40,7 @@ fn main() -> ExitCode {
         }
     };
     println!("{rounds} rounds, seed {seed}");
-    if card::STAND_IN {
-        println!("STAND-IN: the library is not linked, the independent implementation is compared with itself");
-    }
+    say_if_stand_in();
     let mut comparison = Comparison::new(seed);
     let outcome = run(&mut comparison, rounds, seed, programs.as_ref());
     print_counts(&comparison);
@@ -51,6 +54,28 @@ fn main() -> ExitCode {
             ExitCode::FAILURE
         }
     }
+}
+
+fn say_if_stand_in() {
+    if card::STAND_IN {
+        println!("STAND-IN: the library is not linked, the independent implementation is compared with itself");
+    }
+}
+
+/// Every 32-bit word, corrected by both.
+fn all_words() -> ExitCode {
+    let mut answered = 0u64;
+    for word in 0..=u32::MAX {
+        let got = card::correct(word);
+        let expected = independent::codeword::correct(word);
+        if got.number != if expected.is_some() { 0 } else { 20 } || got.word != expected.unwrap_or(word) {
+            println!("DIFFERENCE\nword {word:08X}: got {got:X?}, expected {expected:X?}");
+            return ExitCode::FAILURE;
+        }
+        answered += u64::from(expected.is_some());
+    }
+    println!("no difference in {} words, {answered} of them answered", 1u64 << 32);
+    ExitCode::SUCCESS
 }
 
 fn run(comparison: &mut Comparison, rounds: u64, seed: u64, programs: Option<&Programs>) -> Outcome {
