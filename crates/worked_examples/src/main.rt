@@ -6,6 +6,7 @@ use job::JobAnswer;
 use libc::STDIN_FILENO;
 use libc::STDOUT_FILENO;
 use text::Coding;
+use transmission::Report;
 
 fn print(s: &[u8]) {
     io::write_all(STDOUT_FILENO, s);
@@ -164,6 +165,72 @@ fn answer_front(bytes: &[u8], n: usize) {
     }
 }
 
+fn word_buffer() -> [u32; 5118] {
+    [0; 5118]
+}
+
+fn wide(x: u32) -> u64 {
+    x as u64
+}
+
+// The first n numbers of a slice, in decimal.
+fn print_numbers(numbers: &[u32], n: usize) {
+    let mut i: usize = 0;
+    while i < numbers.len() {
+        if i < n {
+            print(b" ");
+            print_number(wide(numbers[i]));
+        }
+        i += 1;
+    }
+}
+
+// What sending the first n bytes of a slice as a job of so many pages reports, and the slots that it writes.
+fn send_front(bytes: &[u8], n: usize, pages: usize) {
+    if bytes.len() < n {
+        return;
+    }
+    let mut words = word_buffer();
+    let mut slots = [0u32; 48];
+    let report = transmission::send(&bytes[..n], &mut words, &mut slots);
+    if let Report::Sent {
+        batches,
+        words: count,
+    } = report {
+        print(b" batches ");
+        print_number(batches as u64);
+        print(b" words ");
+        print_number(count as u64);
+        print(b" slots");
+        print_numbers(&slots, pages);
+    } else {
+        print(b" refused ");
+        print_number(transmission::number(report) as u64);
+    }
+}
+
+// `S 00000F 0|`: how a job is sent.
+fn send(line: &[u8]) {
+    if line.len() < 2 {
+        return;
+    }
+    let mut bytes = io::buffer();
+    let n = newlines(&line[2..], &mut bytes);
+    send_front(&bytes, n, pages_of(&bytes, n));
+}
+
+// The number of pages of the job in the first n bytes of a slice.
+fn pages_of(bytes: &[u8], n: usize) -> usize {
+    if bytes.len() < n {
+        return 0;
+    }
+    let answer = job::read_job(&bytes[..n]).answer;
+    match answer {
+        JobAnswer::Accepted(pages) => pages,
+        JobAnswer::Refused { why: _, place: _ } => 0,
+    }
+}
+
 // An example, and what the library answers.
 fn run(line: &[u8]) {
     print(line);
@@ -179,6 +246,7 @@ fn run(line: &[u8]) {
         b'T' => groups(line),
         b'H' => heard(line),
         b'J' => job(line),
+        b'S' => send(line),
         _ => {}
     }
     print(b"\n");
