@@ -3,3 +3,4 @@ pub mod AnswerLaws
 pub mod Blocks
 pub mod PageLaws
 pub mod OverLaws
+pub mod Keeping

@@ -1,6 +1,6 @@
 -- Laws of symbols: each says what its word says. Assumes nothing.
 use mathlib.Core.Path.{_≡_, refl, sym, ap, _∙_}
-use mathlib.Core.Bool.{true, false}
+use mathlib.Core.Bool.{Bool, true, false, cond}
 use mathlib.Core.List.{List}
 use Prim.Native.Nat.{ℕ, _+_, _*_, _/_, _%_, _^_, _≤_, _<_}
 use native.Mathlib.Omega.{arith}
@@ -8,7 +8,7 @@ use lib.Dec.{eqb, ltb}
 use lib.ListN.{length, getD, set}
 use lib.Seq.{getD-set-same, getD-set-other}
 use borrow.Author.Count.{below-more}
-use borrow.Author.Tests.{lt-ltb, le-ltb, ltb-true, ltb-false, eq-eqb, ne-eqb, eqb-true}
+use borrow.Author.Tests.{lt-ltb, le-ltb, ltb-true, ne-eqb, eqb-true}
 use Rattle.base.proofs.Bools.{true-false}
 use Rattle.codeword.specs.Code.{idle}
 use Rattle.job.specs.Line.{isReserved}
@@ -59,3 +59,43 @@ one-said m l i x h all here =
     below-more (λ (k : ℕ). said (getD (set l i x) k 0) ≡ m k) i
     (λ k b. ap said (getD-set-other l i k x 0 (λ e. omega arith)) ∙ all k b)
     (ap said (getD-set-same l i x 0 h) ∙ here)
+
+-- ---- what a symbol says, case by case, as the code goes
+
+module _ (x : ℕ) where
+  pub is-lost : 2 ^ 21 ≤ x → Lost ≡ said x
+  unfolding said
+  is-lost h = rw (le-ltb x (2 ^ 20) (omega arith), le-ltb x (2 ^ 21) h)
+
+  pub is-message : 2 ^ 20 ≤ x → x < 2 ^ 21 → Message (x % 2 ^ 20) ≡ said x
+  unfolding said
+  is-message h l = rw (le-ltb x (2 ^ 20) h, lt-ltb x (2 ^ 21) l)
+
+  pub is-idle : x ≡ idle / 2048 → Idle ≡ said x
+  unfolding said
+  is-idle e = rw e
+
+  pub is-address : x < 2 ^ 20 → (x ≡ idle / 2048 → ⊥) → Address (x / 4 * 8) (x % 4) ≡ said x
+  unfolding said
+  is-address h n = rw (lt-ltb x (2 ^ 20) h, ne-eqb x (idle / 2048) n)
+
+  pub said-message : (b : ℕ) → said x ≡ Message b → b ≡ x % 2 ^ 20
+  unfolding said
+  said-message b = go (ltb x (2 ^ 20)) (eqb x (idle / 2048)) (ltb x (2 ^ 21))
+    where
+      go : (low rests high : Bool) → cond low (cond rests Idle (Address (x / 4 * 8) (x % 4))) (cond high (Message (x % 2 ^ 20)) Lost) ≡ Message b → b ≡ x % 2 ^ 20
+      go true true high e = cc
+      go true false high e = cc
+      go false rests true e = cc
+      go false rests false e = cc
+
+  pub said-address : (u f : ℕ) → said x ≡ Address u f → (x < 2 ^ 20) × (u ≡ x / 4 * 8) × (f ≡ x % 4)
+  unfolding said
+  said-address u f = go (ltb x (2 ^ 20)) refl (eqb x (idle / 2048)) (ltb x (2 ^ 21))
+    where
+      go : (low : Bool) → ltb x (2 ^ 20) ≡ low → (rests high : Bool) → cond low (cond rests Idle (Address (x / 4 * 8) (x % 4))) (cond high (Message (x % 2 ^ 20)) Lost) ≡ Address u f
+          → (x < 2 ^ 20) × (u ≡ x / 4 * 8) × (f ≡ x % 4)
+      go true l true high e = let z : _≡_ {A = ℕ} 0 1 = cc in absurd (omega arith)
+      go true l false high e = (ltb-true x (2 ^ 20) l, cc, cc)
+      go false l rests true e = let z : _≡_ {A = ℕ} 0 1 = cc in absurd (omega arith)
+      go false l rests false e = let z : _≡_ {A = ℕ} 0 1 = cc in absurd (omega arith)

@@ -61,10 +61,14 @@ readFrom (listing.WellFormed preamble batches) words room = readBatches words ro
 unfoldable pub readListing : List ℕ → ℕ → Reading
 readListing s room = readFrom (listingOf s) (wordsOf s) room
 
--- what is written over the front of the bytes: the lines of these words, or nothing where the reading is declined
+-- the lines that are written of what was heard: all, or nothing where the reading is declined
+abbrev pub linesOf : Reading → Heard → List ℕ
+linesOf (Read pages lost orphans bytes) h = linesHeard (h .pages)
+linesOf (Declined why) h = []
+
+-- what is written over the front of the bytes: the lines of these words, or nothing
 abbrev pub linesRead : Reading → List ℕ → List ℕ
-linesRead (Read pages lost orphans bytes) words = linesHeard (heardIn words .pages)
-linesRead (Declined why) words = []
+linesRead r words = linesOf r (heardIn words)
 
 -- the number of a reading in document 01's table, 0 where it is read
 abbrev pub numberOf : Reading → ℕ

@@ -3,3 +3,4 @@ pub mod Reading
 pub mod Lines
 pub mod Answers
 pub mod Symbols
+pub mod Progress

@@ -6,7 +6,7 @@ use lib.Dec.{eqb, ltb}
 use lib.ListN.{length, getD, take, drop}
 use Rattle.codeword.specs.Code.{idle}
 use Rattle.placement.specs.Placement.{frameOf}
-use Rattle.reader.specs.Reading.{Hearing, State, hear, silent}
+use Rattle.reader.specs.Reading.{Hearing, State, Heard, hear, silent, ended}
 use Rattle.reader.specs.declared.Meaning.{Meaning}
 use Rattle.reader.specs.declared.Meaning.the-variants.{Lost, Idle, Address, Message}
 
@@ -21,6 +21,10 @@ said x =
 unfoldable pub stateBy : List ℕ → ℕ → State
 stateBy symbols zero = silent
 stateBy symbols (suc s) = hear s (stateBy symbols s) (said (getD symbols s 0))
+
+-- what is heard of slots with these symbols
+abbrev pub heardBy : List ℕ → Heard
+heardBy symbols = ended (stateBy symbols (length symbols))
 
 -- the groups that message words with these symbols carry
 abbrev pub groupsSaid : List ℕ → List ℕ

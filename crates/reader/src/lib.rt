@@ -1,5 +1,6 @@
 // Words or a listing to page lines and a report (document 01, "Listings and reading").
 ghost use mathlib.Core.Path.{_≡_};
+ghost use mathlib.Core.Bool.{false};
 ghost use Prim.Native.Nat.{ℕ, _+_, _*_, _/_, _≤_, _<_};
 ghost use lib.ListN.{length, getD};
 ghost use Rattle.base.specs.Hex.{pairsOf};
@@ -10,8 +11,9 @@ ghost use Rattle.text.specs.Heard.{heardText};
 ghost use Rattle.reader.specs.Meaning.{codewordMeaning, meaning, isSync};
 ghost use Rattle.reader.specs.Reading.{slotWord, closedAs};
 ghost use Rattle.reader.specs.Lines.{kindHeard, fives, digitsHeard, lineHeard};
-ghost use Rattle.reader.specs.Answers.{firstUnsynced};
-ghost use Rattle.reader.specs.Symbols.{said, pageIn, Printable};
+ghost use Rattle.reader.specs.Answers.{firstUnsynced, printedInto, linesOf};
+ghost use Rattle.reader.specs.Symbols.{said, stateBy, heardBy, pageIn, Printable};
+ghost use Rattle.reader.specs.Progress.{Buffers, Kept, closed};
 use codeword::Codeword;
 use codeword::Correction;
 use job::Printing;
@@ -55,7 +57,7 @@ pub enum Reading {
 // What is kept of a reading before a slot.
 struct Progress {
     // One more than the slot of the open page's address; 0 where no page is open.
-    open: usize,
+    held: usize,
     // The closed pages, the lost words, the orphans.
     pages: u32,
     lost: u32,
@@ -225,4 +227,131 @@ fn print_page(
         return 0;
     };
     bytes
+}
+
+// What a symbol says.
+fn said(symbol: u32) -> Meaning
+    ensures { λ r. ⌜ r ≡ said symbol ⌝ }
+{
+    if LOST <= symbol {
+        return Meaning::Lost;
+    }
+    if 0x10_0000 <= symbol {
+        return Meaning::Message(symbol % 0x10_0000);
+    }
+    if symbol == Codeword::IDLE.word() / 2048 {
+        return Meaning::Idle;
+    }
+    Meaning::Address(symbol / 4 * 8, symbol % 4)
+}
+
+// Closes the open page, if any, before slot s.
+fn close(
+    p: Progress,
+    symbols: &[u32],
+    s: usize,
+    cut: bool,
+    digits: &mut [u8],
+    lines: &mut [u8],
+) -> Progress
+    requires { ⌜ Buffers (now symbols) (now digits) (now lines) ⌝ }
+    requires { ⌜ s ≤ length (now symbols) ⌝ }
+    requires { ⌜ Kept (now symbols) s (stateBy (now symbols) s) p (now lines) ⌝ }
+    ensures { λ r. ⌜ Kept (now (symbols .entry)) s (closed cut (stateBy (now (symbols .entry)) s)) r (now (lines .exit)) ⌝ }
+{
+    if p.held == 0 {
+        return p;
+    }
+    let a = p.held - 1;
+    let at = p.bytes;
+    let n = print_page(symbols, a, s, cut, digits, &mut lines[at..]);
+    Progress {
+        held: 0,
+        pages: p.pages + 1,
+        lost: p.lost,
+        orphans: p.orphans,
+        bytes: at + n,
+    }
+}
+
+// Goes on by slot s.
+fn hear(p: Progress, symbols: &[u32], s: usize, digits: &mut [u8], lines: &mut [u8]) -> Progress
+    requires { ⌜ Buffers (now symbols) (now digits) (now lines) ⌝ }
+    requires { ⌜ s < length (now symbols) ⌝ }
+    requires { ⌜ Kept (now symbols) s (stateBy (now symbols) s) p (now lines) ⌝ }
+    ensures { λ r. ⌜ Kept (now (symbols .entry)) (s + 1) (stateBy (now (symbols .entry)) (s + 1)) r (now (lines .exit)) ⌝ }
+{
+    let m = said(symbols[s]);
+    match m {
+        Meaning::Lost => {
+            let mut q = close(p, symbols, s, true, digits, lines);
+            q.lost += 1;
+            q
+        }
+        Meaning::Idle => close(p, symbols, s, false, digits, lines),
+        Meaning::Address(_, _) => {
+            let mut q = close(p, symbols, s, false, digits, lines);
+            q.held = s + 1;
+            q
+        }
+        Meaning::Message(_) => {
+            let mut q = p;
+            if p.held == 0 {
+                q.orphans += 1;
+            }
+            q
+        }
+    }
+}
+
+// Hears all slots, and prints the lines of their pages over the front of the lent lines.
+fn hear_all(symbols: &[u32], digits: &mut [u8], lines: &mut [u8]) -> Progress
+    requires { ⌜ Buffers (now symbols) (now digits) (now lines) ⌝ }
+    ensures { λ r. ⌜ Kept (now (symbols .entry)) (length (now (symbols .entry))) (closed false (stateBy (now (symbols .entry)) (length (now (symbols .entry))))) r (now (lines .exit)) ⌝ }
+{
+    let mut p = Progress {
+        held: 0,
+        pages: 0,
+        lost: 0,
+        orphans: 0,
+        bytes: 0,
+    };
+    let mut s = 0;
+    while s < symbols.len() {
+        p = hear(p, symbols, s, digits, lines);
+        s += 1;
+    }
+    close(p, symbols, s, false, digits, lines)
+}
+
+// Room for the digits of the longest page.
+fn blank_digits() -> [u8; 48000] {
+    [0u8; 48000]
+}
+
+// Room for the lines of 300 batches.
+fn blank_lines() -> [u8; 52800] {
+    [0u8; 52800]
+}
+
+// Reads slots by their symbols: the lines go to the front of the bytes, where there is room for all of them.
+fn read_symbols(symbols: &[u32], out: &mut [u8]) -> Reading
+    requires { ⌜ length (now symbols) ≤ 4800 ⌝ }
+    ensures { λ r. ⌜ r ≡ printedInto (heardBy (now (symbols .entry))) (length (now (out .entry))) ⌝ }
+    ensures { λ r. ⌜ now (out .exit) ≡ over (now (out .entry)) (linesOf r (heardBy (now (symbols .entry)))) ⌝ }
+{
+    let mut digits = blank_digits();
+    let mut lines = blank_lines();
+    let p = hear_all(symbols, &mut digits, &mut lines);
+    let n = p.bytes;
+    if out.len() < n {
+        return Reading::Declined(Fault::NoRoom);
+    }
+    bytes::copy(&lines[..n], out);
+    Reading::Read {
+        pages: p.pages,
+        lost: p.lost,
+        orphans: p.orphans,
+        bytes: n,
+    }
 }

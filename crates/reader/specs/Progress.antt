@@ -1,0 +1,39 @@
+-- What the code keeps of a reading before a slot, and what holds of it. No public promise needs this. `Progress` is src/lib.rt's struct.
+use mathlib.Core.Path.{_≡_}
+use mathlib.Core.Bool.{Bool}
+use mathlib.Core.List.{List}
+use mathlib.Core.Option.{Option, none, some}
+use Prim.Native.Nat.{ℕ, _+_, _*_, _^_, _≤_, _<_}
+use lib.ListN.{length, getD, take}
+use Rattle.reader.specs.Reading.{Hearing, State, close}
+use Rattle.reader.specs.Lines.{linesHeard}
+use Rattle.reader.specs.Symbols.{pageIn}
+use Rattle.reader.specs.declared.Progress.{Progress}
+
+-- at most 300 batches, ten digits a slot and eleven bytes a slot
+pub record Buffers (symbols digits lines : List ℕ) : Type 0 where
+  pub slots : length symbols ≤ 4800
+  pub room : 48000 ≤ length digits
+  pub space : 52800 ≤ length lines
+
+-- The open page before slot s, by one more than its address's slot; 0 where none is open. The closed pages, so many with so many bytes
+-- of lines, fill no more slots than there are before it.
+pub data Held (symbols : List ℕ) (s number pages bytes : ℕ) (held : Option Hearing) : Type 0 where
+  nothing : number ≡ 0 → held ≡ none → pages ≤ s → bytes ≤ 11 * s → Held symbols s number pages bytes held
+  page : (a : ℕ) → number ≡ a + 1 → held ≡ some (pageIn symbols a s) → a < s → getD symbols a 0 < 2 ^ 20 → pages ≤ a → bytes ≤ 11 * a
+      → Held symbols s number pages bytes held
+
+-- the numbers kept are those of the state before slot s, and the lines of its closed pages are printed
+pub record Kept (symbols : List ℕ) (s : ℕ) (st : State) (p : Progress) (lines : List ℕ) : Type 0 where
+  pub pages : p .pages ≡ length (st .pages)
+  pub lost : p .lost ≡ st .lost
+  pub orphans : p .orphans ≡ st .orphans
+  pub few-lost : p .lost ≤ s
+  pub few-orphans : p .orphans ≤ s
+  pub size : p .bytes ≡ length (linesHeard (st .pages))
+  pub printed : take (p .bytes) lines ≡ linesHeard (st .pages)
+  pub held : Held symbols s (p .held) (p .pages) (p .bytes) (st .held)
+
+-- the state once the open page, if any, is closed
+abbrev pub closed : Bool → State → State
+closed cut st = record { pages = close cut (st .pages) (st .held); held = none; lost = st .lost; orphans = st .orphans }
