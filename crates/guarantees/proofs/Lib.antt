@@ -5,3 +5,6 @@ pub mod Transport
 pub mod LineBack
 pub mod Reported
 pub mod Demand2
+pub mod Acceptance
+pub mod Carried
+pub mod Demand3

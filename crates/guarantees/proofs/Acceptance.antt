@@ -1,0 +1,91 @@
+-- A job is accepted exactly when no number but 10 declines its sending. Assumes nothing.
+use mathlib.Core.Path.{_≡_, refl}
+use mathlib.Core.Bool.{Bool, true, false, cond, _||_}
+use mathlib.Core.List.{List}
+use mathlib.Core.Logic.{⊎-elim, _⊎_, inl, inr}
+use Prim.Native.Nat.{ℕ, _≤_}
+use native.Mathlib.Omega.{arith}
+use lib.ListN.{length}
+use lib.Dec.{ltb}
+use borrow.Author.Tests.{le-ltb}
+use Rattle.job.specs.Job.{jobOf}
+use Rattle.job.specs.Refusal as refusal
+use Rattle.job.specs.declared.Refusal.{Refusal}
+use Rattle.job.specs.declared.Refusal.the-variants.{Malformed, IdentityRange, IdentityReserved, UnknownKind, ToneWithText, TextMissing, TextTooLong, Character, TrailingSpace, TooManyLines, EmptyJob}
+use Rattle.job.specs.declared.JobAnswer.{JobAnswer}
+use Rattle.job.specs.declared.JobAnswer.the-variants.{Accepted, Refused}
+use Rattle.placement.specs.Placement.{batches}
+use Rattle.transmission.specs.Sending.{Sending, sendingsOf, placementOf}
+use Rattle.transmission.specs.Transmission.{wordCount}
+use Rattle.transmission.specs.Report.{answered, reportOf, numberOf}
+use Rattle.transmission.specs.declared.Report.{Report}
+use Rattle.transmission.specs.declared.Report.the-variants.{Sent, Declined, NoRoom}
+use Rattle.transmission.proofs.ReportLaws.{report-accepted}
+use Rattle.transmission.proofs.Sendings.{accepted-sendings, sendings-limits}
+use Rattle.sender.specs.Start.{startedOf}
+use Rattle.guarantees.specs.Demand3.{OnlyRoom, Acceptance}
+
+-- the numbers of a refused job are 1 to 9
+refused-number : (why : Refusal) → (1 ≤ refusal.numberOf why) × (refusal.numberOf why ≤ 9)
+refused-number Malformed = (omega arith, omega arith)
+refused-number IdentityRange = (omega arith, omega arith)
+refused-number IdentityReserved = (omega arith, omega arith)
+refused-number UnknownKind = (omega arith, omega arith)
+refused-number ToneWithText = (omega arith, omega arith)
+refused-number TextMissing = (omega arith, omega arith)
+refused-number TextTooLong = (omega arith, omega arith)
+refused-number Character = (omega arith, omega arith)
+refused-number TrailingSpace = (omega arith, omega arith)
+refused-number TooManyLines = (omega arith, omega arith)
+refused-number EmptyJob = (omega arith, omega arith)
+
+by-number : (a : JobAnswer) (xs : List Sending) (words slots : ℕ) → OnlyRoom (answered a xs words slots) → (n : ℕ) × (a ≡ Accepted n)
+by-number (Accepted n) xs words slots h = (n, refl)
+by-number (Refused why place) xs words slots h =
+    absurd (⊎-elim (λ e. omega (arith, refused-number why .0)) (λ e. omega (arith, refused-number why .1)) h)
+
+by-room : (short : Bool) (b m : ℕ) → OnlyRoom (cond short NoRoom (Sent b m))
+by-room true b m = inr refl
+by-room false b m = inl refl
+
+by-report : (r : Report) → numberOf r ≡ 0 → (b : ℕ) × (m : ℕ) × (r ≡ Sent b m)
+by-report (Sent b m) e = (b, m, refl)
+by-report (Declined why place) e = absurd (omega (arith, refused-number why .0))
+by-report NoRoom e = absurd (omega arith)
+
+module _ (s : List ℕ) where
+  accepted-only : (words slots : ℕ) → OnlyRoom (reportOf s words slots) → (n : ℕ) × (jobOf s ≡ Accepted n)
+  unfolding reportOf
+  accepted-only words slots h = by-number (jobOf s) (sendingsOf s) words slots h
+
+  module _ (n : ℕ) (ok : jobOf s ≡ Accepted n) (words slots : ℕ) where
+    only-room : OnlyRoom (reportOf s words slots)
+    only-room =
+        let job = placementOf (sendingsOf s) in
+        rw (← report-accepted s words slots ok)
+        (by-room (ltb words (wordCount job) || ltb slots (length (sendingsOf s))) (batches job) (wordCount job))
+
+    room-enough : 5118 ≤ words → 48 ≤ slots → numberOf (reportOf s words slots) ≡ 0
+    room-enough h l =
+        let a = accepted-sendings s n ok in
+        let limit = sendings-limits a .listed in
+        let most = a .most in
+        rw (
+          ← report-accepted s words slots ok,
+          le-ltb words (wordCount (placementOf (sendingsOf s))) (omega arith),
+          le-ltb slots (length (sendingsOf s)) (omega arith),
+        )
+
+  same-answer : startedOf s .answer ≡ jobOf s
+  unfolding startedOf
+  same-answer = refl
+
+  pub acceptance : Acceptance s
+  acceptance =
+      record {
+        accepted = accepted-only;
+        undeclined = only-room;
+        reports = λ words slots. by-report (reportOf s words slots);
+        enough = λ n ok words slots h l. room-enough n ok words slots (omega arith) (omega arith);
+        started = same-answer;
+      }

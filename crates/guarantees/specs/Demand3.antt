@@ -1,0 +1,139 @@
+-- Demand 3: the slots and batches that are reported of an accepted job keep their bounds, and are those of the placement and those in
+-- the card's words; the steps give the same words. `demand3` in proofs/Demand3.antt proves it of every job.
+use mathlib.Core.Path.{_≡_}
+use mathlib.Core.Bool.{true, cond}
+use mathlib.Core.List.{List, _++_, map}
+use mathlib.Core.Logic.{_⊎_}
+use Prim.Native.Nat.{ℕ, _+_, _*_, _/_, _≤_, _<_}
+use lib.ListN.{length, getD, take, replicate}
+use lib.Dec.{eqb, ltb, leb}
+use Rattle.base.specs.Lists.{over}
+use Rattle.base.specs.Search.{sum}
+use Rattle.codeword.specs.Code as code
+use Rattle.job.specs.Pages.{pageAt}
+use Rattle.job.specs.Job.{jobOf}
+use Rattle.job.specs.declared.JobAnswer.the-variants.{Accepted}
+use Rattle.placement.specs.Placement.{address, messages, latest, slotBound, contentAt, batches, slots}
+use Rattle.transmission.specs.Sending.{Sending, sendingOf, sendingsOf, placementOf}
+use Rattle.transmission.specs.Transmission.{addressOf, messageOf, transmissionOf}
+use Rattle.transmission.specs.Transmitted.{slotIndex, isAddress}
+use Rattle.transmission.specs.Report.{reportOf, wordsSent, slotsSent, numberOf}
+use Rattle.transmission.specs.declared.Report.{Report}
+use Rattle.transmission.specs.declared.Report.the-variants.{Sent}
+use Rattle.sender.specs.declared.Answer.the-variants.{Word, Done}
+use Rattle.sender.specs.Start.{startedOf}
+use Rattle.sender.specs.Stepping.{answers, Stepping}
+
+-- ---- accepted jobs
+
+-- no number but 10 declines
+abbrev pub OnlyRoom : Report → Type 0
+OnlyRoom r = (numberOf r ≡ 0) ⊎ (numberOf r ≡ 10)
+
+pub record Acceptance (s : List ℕ) : Type 0 where
+  -- a job is accepted exactly when no number but 10 declines its sending, whatever is lent
+  pub accepted : (words slots : ℕ) → OnlyRoom (reportOf s words slots) → (n : ℕ) × (jobOf s ≡ Accepted n)
+  pub undeclined : (n : ℕ) → jobOf s ≡ Accepted n → (words slots : ℕ) → OnlyRoom (reportOf s words slots)
+  -- where 10 doesn't either, sending reports
+  pub reports : (words slots : ℕ) → numberOf (reportOf s words slots) ≡ 0 → (b : ℕ) × (m : ℕ) × (reportOf s words slots ≡ Sent b m)
+  -- room for 300 batches and 48 pages is enough for every accepted job
+  pub enough : (n : ℕ) → jobOf s ≡ Accepted n → (words slots : ℕ) → 5118 ≤ words → 48 ≤ slots → numberOf (reportOf s words slots) ≡ 0
+  -- starting the steps accepts the same jobs
+  pub started : startedOf s .answer ≡ jobOf s
+
+-- ---- a call of `send`
+
+-- with the job s, lent words that held w₀ and slots that held t₀, it answers r and leaves w and t: its three promises
+pub record Call (s w₀ t₀ : List ℕ) (r : Report) (w t : List ℕ) : Type 0 where
+  pub answer : r ≡ reportOf s (length w₀) (length t₀)
+  pub words : w ≡ over w₀ (wordsSent r (sendingsOf s))
+  pub slots : t ≡ over t₀ (slotsSent r (sendingsOf s))
+
+-- page i of a job as it is sent: identity, function, 20-bit groups
+abbrev pub page : List ℕ → ℕ → Sending
+page s i = sendingOf (pageAt s i)
+
+-- the message codewords of a page of a kind with c characters: none for a tone, c / 5 for numeric ones, 7 c / 20 for alphanumeric ones, each rounded up
+unfoldable pub messageCount : ℕ → ℕ → ℕ
+messageCount kind c = cond (leb kind 3) 0 (cond (eqb kind 4) ((c + 4) / 5) ((7 * c + 19) / 20))
+
+-- those of page i
+abbrev pub count : List ℕ → ℕ → ℕ
+count s i = messageCount (pageAt s i .kind) (length (pageAt s i .text))
+
+-- the slot that is reported for page i
+abbrev pub slot : List ℕ → ℕ → ℕ
+slot t i = getD t i 0
+
+-- the word of slot p: word 19 + 17 q + r, where p = 16 q + r and r is under 16
+abbrev pub wordIn : List ℕ → ℕ → ℕ
+wordIn w p = getD w (slotIndex p) 0
+
+-- the sum of f over those of n pages whose reported slot is before that of page i
+unfoldable pub earlier : List ℕ → ℕ → (ℕ → ℕ) → ℕ → ℕ
+earlier t n f i = sum (λ j. cond (ltb (slot t j) (slot t i)) (f j) 0) n
+
+-- page i goes out k-th: k - 1 pages go out before it
+abbrev pub GoesOut : List ℕ → ℕ → ℕ → ℕ → Type 0
+GoesOut t n k i = earlier t n (λ _. 1) i + 1 ≡ k
+
+-- Below a job s of n pages is sent with b batches and m words, and the words and slots at exit are w and t.
+
+-- the two bounds
+pub record InTime (s : List ℕ) (n b : ℕ) (t : List ℕ) : Type 0 where
+  -- for every k from 1 to n exactly one page goes out k-th
+  pub some : (k : ℕ) → 1 ≤ k → k ≤ n → (i : ℕ) × (i < n) × GoesOut t n k i
+  pub one : (k i j : ℕ) → i < n → j < n → GoesOut t n k i → GoesOut t n k j → i ≡ j
+  -- its slot is at most 15 k - 1 and the message codewords of the pages before it
+  pub in-time : (k i : ℕ) → i < n → GoesOut t n k i → slot t i ≤ latest k (earlier t n (count s) i)
+  -- the batches are at most the sixteenth part of 15 n and all message codewords, rounded down, and one more
+  pub few : b ≤ slotBound (placementOf (sendingsOf s)) / 16 + 1
+  -- the bound's pages and message codewords are those of the job
+  pub pages : placementOf (sendingsOf s) .pages ≡ n
+  pub codewords : messages (placementOf (sendingsOf s)) ≡ sum (count s) n
+
+-- what is reported is what the placement says
+pub record AsPlaced (s : List ℕ) (n b m : ℕ) (w t : List ℕ) : Type 0 where
+  -- its batches, its slots, and in each of these the page's address
+  pub batches-are : b ≡ batches (placementOf (sendingsOf s))
+  pub slots-are : take n t ≡ slots (placementOf (sendingsOf s))
+  pub placed : (i : ℕ) → i < n → contentAt (placementOf (sendingsOf s)) (slot t i) ≡ address i
+  -- 18 words and 17 a batch, which are all the card's words
+  pub words-are : m ≡ 18 + 17 * b
+  pub card : take m w ≡ transmissionOf (sendingsOf s)
+  -- all of it stands in what was lent
+  pub words-fit : m ≤ length w
+  pub slots-fit : n ≤ length t
+
+-- what is reported is what stands in the words
+pub record InWords (s : List ℕ) (n b m : ℕ) (w t : List ℕ) : Type 0 where
+  -- the slots whose word is an address are the reported ones
+  pub reported : (p : ℕ) → p < 16 * b → isAddress (wordIn w p) ≡ true → (i : ℕ) × (i < n) × (p ≡ slot t i)
+  pub addressed : (i : ℕ) → i < n → isAddress (wordIn w (slot t i)) ≡ true
+  -- there stands the codeword of the page's identity and function
+  pub its-address : (i : ℕ) → i < n → wordIn w (slot t i) ≡ addressOf (page s i)
+  -- and directly behind it a message codeword for each of the page's groups, inside the batches
+  pub counted : (i : ℕ) → i < n → length (page s i .groups) ≡ count s i
+  pub its-message : (i j : ℕ) → i < n → j < count s i → wordIn w (slot t i + 1 + j) ≡ messageOf (page s i) j
+  pub inside : (i : ℕ) → i < n → slot t i + count s i < 16 * b
+  -- all other slots are idle
+  pub others : (p : ℕ) → p < 16 * b → ((i j : ℕ) → i < n → j ≤ count s i → p ≡ slot t i + j → ⊥) → wordIn w p ≡ code.idle
+  -- sync stands in the words once for each reported batch
+  pub syncs : sum (λ k. cond (eqb (getD w k 0) code.sync) 1 0) m ≡ b
+
+-- all of that, and any number k of steps answers these very words, the first k of them, with nothing but done behind the last
+pub record Carried (s : List ℕ) (n b m : ℕ) (w t : List ℕ) : Type 0 where
+  pub in-time : InTime s n b t
+  pub as-placed : AsPlaced s n b m w t
+  pub in-words : InWords s n b m w t
+  pub steps : (k : ℕ) → answers k (startedOf s .state) ≡ take k (map Word (take m w) ++ replicate k Done)
+
+-- ---- demand 3 of a job, whatever its bytes are
+
+pub record Demand3 (s : List ℕ) : Type 0 where
+  pub acceptance : Acceptance s
+  -- every call of `send` that reports b batches and m words
+  pub sending : (w₀ t₀ w t : List ℕ) (b m : ℕ) → Call s w₀ t₀ (Sent b m) w t → (n : ℕ) × (jobOf s ≡ Accepted n) × Carried s n b m w t
+  -- every list of steps, by value or in place, from the state that the job gives if it is accepted: none is declined, the answers are
+  -- the card's words and then done, and a step behind the last word alters nothing
+  pub stepping : (n : ℕ) → jobOf s ≡ Accepted n → Stepping (sendingsOf s) (startedOf s .state)
