@@ -1,19 +1,30 @@
 -- The answers case by case, as the code goes. Assumes nothing.
-use mathlib.Core.Path.{_≡_, refl, sym, ap, _∙_}
+use mathlib.Core.Path.{_≡_, refl, sym, ap, ap₂, _∙_}
 use mathlib.Core.Bool.{true, false}
 use mathlib.Core.List.{List, _++_}
-use Prim.Native.Nat.{ℕ, _/_, _≤_, _<_}
+use Prim.Native.Nat.{ℕ, zero, suc, _+_, _*_, _/_, _%_, _≤_, _<_}
 use native.Mathlib.Omega.{arith}
-use lib.ListN.{length, take, drop, length-take}
+use lib.ListN.{length, getD, take, drop, length-take}
 use lib.Seq.{take-length}
-use borrow.Author.Tests.{lt-ltb, le-ltb}
+use borrow.Author.Tests.{lt-ltb, le-ltb, eq-eqb, ne-eqb}
 use Rattle.base.specs.Lists.{over}
 use Rattle.base.proofs.SearchLaws.{least-only}
+use Rattle.codeword.specs.Nearest.{nearest}
+use Rattle.listing.specs.Listing.{listingOf}
+use Rattle.listing.specs.Words.{wordsOf}
+use Rattle.listing.specs.Answers.{readInto, readingOf}
+use Rattle.listing.specs.declared.Fault as listing-fault
+use Rattle.listing.specs.declared.Listing.{Listing}
+use Rattle.listing.specs.declared.Listing.the-variants as listing
+use Rattle.listing.specs.declared.Reading.the-variants as listing-reading
+use Rattle.listing.proofs.Indexed.{formed}
+use Rattle.reader.specs.Meaning.{meaning}
+use Rattle.reader.specs.Reading.{hear, readAt, ended, slotWord, heardIn}
 use Rattle.reader.specs.Lines.{linesHeard}
-use Rattle.reader.specs.Answers.{unsynced, firstUnsynced, printedInto, linesOf}
-use Rattle.reader.specs.Symbols.{stateBy, heardBy}
+use Rattle.reader.specs.Answers.{unsynced, firstUnsynced, printedInto, readBatches, readWords, faultOf, readListing}
+use Rattle.reader.specs.Symbols.{said, Tells, stateBy, heardBy}
 use Rattle.reader.specs.Progress.{Kept, closed}
-use Rattle.reader.specs.declared.Fault.the-variants.{NoRoom}
+use Rattle.reader.specs.declared.Fault.the-variants.{Malformed, TooMany, Unsynced, NoRoom}
 use Rattle.reader.specs.declared.Progress.{Progress}
 use Rattle.reader.specs.declared.Reading.the-variants.{Read, Declined}
 
@@ -48,3 +59,88 @@ module _ (symbols old : List ℕ) (p : Progress) (lines : List ℕ) (k : Kept sy
   pub all-copied : {out : List ℕ} → out ≡ take (length (take (p .bytes) lines)) (take (p .bytes) lines) ++ drop (length (take (p .bytes) lines)) old
       → out ≡ over old (linesHeard (heardBy symbols .pages))
   all-copied e = e ∙ ap (λ (l : List ℕ). l ++ drop (length (take (p .bytes) lines)) old) (take-length (take (p .bytes) lines)) ∙ ap (over old) (k .printed)
+
+-- ---- whole batches
+
+-- symbols that say what the slot words say lead through the same states
+state-same : (symbols : List ℕ) (word : ℕ → ℕ) (n : ℕ) → ((s : ℕ) → s < n → said (getD symbols s 0) ≡ meaning (nearest (word s)))
+    → stateBy symbols n ≡ readAt word n
+unfolding stateBy readAt
+state-same symbols word zero h = refl
+state-same symbols word (suc n) h = ap₂ (hear n) (state-same symbols word n (λ s l. h s (omega arith))) (h n (omega arith))
+
+module _ (words : List ℕ) where
+  pub heard-same : (symbols : List ℕ) → Tells words (16 * (length words / 17)) symbols → heardBy symbols ≡ heardIn words
+  unfolding heardIn
+  heard-same symbols t =
+      ap ended (ap (stateBy symbols) (t .count) ∙ state-same symbols (slotWord words) (16 * (length words / 17)) (t .each))
+
+  module _ (room : ℕ) where
+    pub batches-unsynced : firstUnsynced words < length words / 17 → Declined (Unsynced (firstUnsynced words + 1)) ≡ readBatches words room
+    unfolding readBatches
+    batches-unsynced h = rw (lt-ltb (firstUnsynced words) (length words / 17) h)
+
+    pub batches-read : length words / 17 ≤ firstUnsynced words → printedInto (heardIn words) room ≡ readBatches words room
+    unfolding readBatches
+    batches-read h = rw (le-ltb (firstUnsynced words) (length words / 17) h)
+
+    -- ---- words
+
+    pub words-none : length words ≡ 0 → Declined (Malformed 0) ≡ readWords words room
+    unfolding readWords
+    words-none e = rw (eq-eqb (length words) 0 e)
+
+    module _ (some : length words ≡ 0 → ⊥) where
+      pub words-part : (length words % 17 ≡ 0 → ⊥) → Declined (Malformed 0) ≡ readWords words room
+      unfolding readWords
+      words-part e = rw (ne-eqb (length words) 0 some, ne-eqb (length words % 17) 0 e)
+
+      module _ (whole : length words % 17 ≡ 0) where
+        pub words-many : 300 < length words / 17 → Declined (TooMany 0) ≡ readWords words room
+        unfolding readWords
+        words-many h = rw (ne-eqb (length words) 0 some, eq-eqb (length words % 17) 0 whole, lt-ltb 300 (length words / 17) h)
+
+        pub words-read : length words / 17 ≤ 300 → readBatches words room ≡ readWords words room
+        unfolding readWords
+        words-read h = rw (ne-eqb (length words) 0 some, eq-eqb (length words % 17) 0 whole, le-ltb 300 (length words / 17) h)
+
+-- ---- a listing, whose words are read into room for those of 300 batches
+
+-- they are there
+pub record Words (s : List ℕ) (n : ℕ) : Type 0 where
+  pub count : n ≡ length (wordsOf s)
+  pub few : n ≤ 5100
+  pub read : (room : ℕ) → readBatches (wordsOf s) room ≡ readListing s room
+
+module _ (s : List ℕ) where
+  well-formed : (p b : ℕ) → listingOf s ≡ listing.WellFormed p b → readingOf s 5100 ≡ listing-reading.Words (17 * b)
+  well-formed p b e = rw (e, le-ltb 5100 (17 * b) (omega (arith, formed s p b e .limits .few)))
+
+  pub listing-read : (n : ℕ) → listing-reading.Words n ≡ readingOf s 5100 → Words s n
+  unfolding readListing
+  listing-read n = go (listingOf s) refl
+    where
+      go : (l : Listing) → listingOf s ≡ l → listing-reading.Words n ≡ readingOf s 5100 → Words s n
+      go (listing.WellFormed p b) e q =
+          let f = formed s p b e in
+          let same = q ∙ well-formed p b e in
+          let count : n ≡ 17 * b = cc in
+          record { count = count ∙ sym (f .count); few = omega (arith, f .limits .few); read = λ room. rw e }
+      go (listing.Declined why) e q =
+          let other : listing-reading.Words n ≡ listing-reading.Unread why = q ∙ ap (readInto 5100) e in
+          let z : _≡_ {A = ℕ} 0 1 = cc in
+          absurd (omega arith)
+
+  pub listing-declined : (why : listing-fault.Fault) (room : ℕ) → listing-reading.Unread why ≡ readingOf s 5100 → Declined (faultOf why) ≡ readListing s room
+  unfolding readListing
+  listing-declined why room = go (listingOf s) refl
+    where
+      go : (l : Listing) → listingOf s ≡ l → listing-reading.Unread why ≡ readingOf s 5100 → Declined (faultOf why) ≡ readListing s room
+      go (listing.WellFormed p b) e q =
+          let other : listing-reading.Unread why ≡ listing-reading.Words (17 * b) = q ∙ well-formed p b e in
+          let z : _≡_ {A = ℕ} 0 1 = cc in
+          absurd (omega arith)
+      go (listing.Declined w) e q =
+          let both : listing-reading.Unread why ≡ listing-reading.Unread w = q ∙ ap (readInto 5100) e in
+          let same : why ≡ w = cc in
+          rw e (ap (λ (f : listing-fault.Fault). Declined (faultOf f)) same)

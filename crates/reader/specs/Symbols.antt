@@ -1,12 +1,15 @@
 -- How the code keeps what a slot's word says: in one number, its symbol. No public promise needs this.
+use mathlib.Core.Path.{_≡_}
 use mathlib.Core.Bool.{false, cond}
 use mathlib.Core.List.{List, map}
 use Prim.Native.Nat.{ℕ, zero, suc, _+_, _-_, _*_, _/_, _%_, _^_, _≤_, _<_}
 use lib.Dec.{eqb, ltb}
 use lib.ListN.{length, getD, take, drop}
 use Rattle.codeword.specs.Code.{idle}
+use Rattle.codeword.specs.Nearest.{nearest}
 use Rattle.placement.specs.Placement.{frameOf}
-use Rattle.reader.specs.Reading.{Hearing, State, Heard, hear, silent, ended}
+use Rattle.reader.specs.Meaning.{meaning}
+use Rattle.reader.specs.Reading.{Hearing, State, Heard, hear, silent, ended, slotWord}
 use Rattle.reader.specs.declared.Meaning.{Meaning}
 use Rattle.reader.specs.declared.Meaning.the-variants.{Lost, Idle, Address, Message}
 
@@ -16,6 +19,11 @@ said x =
     cond (ltb x (2 ^ 20))
     (cond (eqb x (idle / 2048)) Idle (Address (x / 4 * 8) (x % 4)))
     (cond (ltb x (2 ^ 21)) (Message (x % 2 ^ 20)) Lost)
+
+-- the n symbols say what the first n slot words of these batches say
+pub record Tells (words : List ℕ) (n : ℕ) (symbols : List ℕ) : Type 0 where
+  pub count : length symbols ≡ n
+  pub each : (s : ℕ) → s < n → said (getD symbols s 0) ≡ meaning (nearest (slotWord words s))
 
 -- the state before slot s, by the slots' symbols
 unfoldable pub stateBy : List ℕ → ℕ → State

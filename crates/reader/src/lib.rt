@@ -8,11 +8,12 @@ ghost use Rattle.base.specs.Lists.{over};
 ghost use Rattle.codeword.specs.Nearest.{nearest};
 ghost use Rattle.codeword.specs.Table.{WrongBitsTable};
 ghost use Rattle.text.specs.Heard.{heardText};
+ghost use Rattle.listing.specs.Words.{wordsOf};
 ghost use Rattle.reader.specs.Meaning.{codewordMeaning, meaning, isSync};
-ghost use Rattle.reader.specs.Reading.{slotWord, closedAs};
+ghost use Rattle.reader.specs.Reading.{closedAs};
 ghost use Rattle.reader.specs.Lines.{kindHeard, fives, digitsHeard, lineHeard};
-ghost use Rattle.reader.specs.Answers.{firstUnsynced, printedInto, linesOf};
-ghost use Rattle.reader.specs.Symbols.{said, stateBy, heardBy, pageIn, Printable};
+ghost use Rattle.reader.specs.Answers.{firstUnsynced, printedInto, linesOf, readBatches, readWords, faultOf, readListing, linesRead, numberOf, placeOf};
+ghost use Rattle.reader.specs.Symbols.{said, Tells, stateBy, heardBy, pageIn, Printable};
 ghost use Rattle.reader.specs.Progress.{Buffers, Kept, closed};
 use codeword::Codeword;
 use codeword::Correction;
@@ -128,7 +129,7 @@ fn first_unsynced(table: &[u16; 1024], words: &[u32]) -> usize
 fn read_slots(table: &[u16; 1024], words: &[u32], symbols: &mut [u32])
     requires { ⌜ WrongBitsTable (now table) ⌝ }
     requires { ⌜ length (now symbols) ≤ 16 * (length (now words) / 17) ⌝ }
-    ensures { λ _. ⌜ ((s : ℕ) → s < length (now (symbols .entry)) → said (getD (now (symbols .exit)) s 0) ≡ meaning (nearest (slotWord (now (words .entry)) s))) ⌝ }
+    ensures { λ _. ⌜ Tells (now (words .entry)) (length (now (symbols .entry))) (now (symbols .exit)) ⌝ }
 {
     let mut s = 0;
     while s < symbols.len() {
@@ -353,5 +354,115 @@ fn read_symbols(symbols: &[u32], out: &mut [u8]) -> Reading
         lost: p.lost,
         orphans: p.orphans,
         bytes: n,
+    }
+}
+
+// Room for the symbols of 300 batches.
+fn blank_symbols() -> [u32; 4800] {
+    [0u32; 4800]
+}
+
+// Reads whole batches, 300 at most.
+fn read_batches(words: &[u32], out: &mut [u8]) -> Reading
+    requires { ⌜ length (now words) ≤ 5100 ⌝ }
+    ensures { λ r. ⌜ r ≡ readBatches (now (words .entry)) (length (now (out .entry))) ⌝ }
+    ensures { λ r. ⌜ now (out .exit) ≡ over (now (out .entry)) (linesRead r (now (words .entry))) ⌝ }
+{
+    let table = codeword::wrong_bits_table();
+    let batches = words.len() / 17;
+    let first = first_unsynced(&table, words);
+    if first < batches {
+        return Reading::Declined(Fault::Unsynced(first + 1));
+    }
+    let mut symbols = blank_symbols();
+    let slots = 16 * batches;
+    read_slots(&table, words, &mut symbols[..slots]);
+    read_symbols(&symbols[..slots], out)
+}
+
+// Reads a slice of words, batches only: the lines of the pages go to the front of the bytes, and what stands behind them keeps its value.
+pub fn read_words(words: &[u32], out: &mut [u8]) -> Reading
+    ensures { λ r. ⌜ r ≡ readWords (now (words .entry)) (length (now (out .entry))) ⌝ }
+    ensures { λ r. ⌜ now (out .exit) ≡ over (now (out .entry)) (linesRead r (now (words .entry))) ⌝ }
+{
+    let n = words.len();
+    if n == 0 {
+        return Reading::Declined(Fault::Malformed(0));
+    }
+    if n % 17 != 0 {
+        return Reading::Declined(Fault::Malformed(0));
+    }
+    if 300 < n / 17 {
+        return Reading::Declined(Fault::TooMany(0));
+    }
+    read_batches(words, out)
+}
+
+// Room for the words of 300 batches.
+fn blank_words() -> [u32; 5100] {
+    [0u32; 5100]
+}
+
+// A listing's fault as this crate's.
+fn fault_of(why: listing::Fault) -> Fault
+    ensures { λ r. ⌜ r ≡ faultOf why ⌝ }
+{
+    match why {
+        listing::Fault::Malformed(line) => Fault::Malformed(line),
+        listing::Fault::TooMany(line) => Fault::TooMany(line),
+        listing::Fault::ShortBuffer => Fault::NoRoom,
+    }
+}
+
+// Reads a listing as `read_words` reads its words.
+pub fn read_listing(listing: &[u8], out: &mut [u8]) -> Reading
+    ensures { λ r. ⌜ r ≡ readListing (now (listing .entry)) (length (now (out .entry))) ⌝ }
+    ensures { λ r. ⌜ now (out .exit) ≡ over (now (out .entry)) (linesRead r (wordsOf (now (listing .entry)))) ⌝ }
+{
+    let mut words = blank_words();
+    let l = listing::read(listing, &mut words);
+    match l {
+        listing::Reading::Words(n) => read_batches(&words[..n], out),
+        listing::Reading::Unread(why) => Reading::Declined(fault_of(why)),
+    }
+}
+
+// The number of a reading in the table; 0 where it is read.
+pub fn number(r: Reading) -> u32
+    ensures { λ n. ⌜ n ≡ numberOf r ⌝ }
+{
+    match r {
+        Reading::Read {
+            pages: _,
+            lost: _,
+            orphans: _,
+            bytes: _,
+        } => 0,
+        Reading::Declined(why) => match why {
+            Fault::Malformed(_) => 21,
+            Fault::TooMany(_) => 23,
+            Fault::Unsynced(_) => 22,
+            Fault::NoRoom => 10,
+        },
+    }
+}
+
+// The place of a reading; 0 where it is read.
+pub fn place(r: Reading) -> usize
+    ensures { λ n. ⌜ n ≡ placeOf r ⌝ }
+{
+    match r {
+        Reading::Read {
+            pages: _,
+            lost: _,
+            orphans: _,
+            bytes: _,
+        } => 0,
+        Reading::Declined(why) => match why {
+            Fault::Malformed(line) => line,
+            Fault::TooMany(line) => line,
+            Fault::Unsynced(batch) => batch,
+            Fault::NoRoom => 0,
+        },
     }
 }

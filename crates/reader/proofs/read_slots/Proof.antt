@@ -68,7 +68,7 @@ same-length : tie.Need-same-length Inv-loop μ-loop
 same-length c = c .before .loop .inv .1
 
 returns : tie.Need-returns Inv-loop μ-loop
-returns c = λ s h. c .before .loop .inv .2 s (omega arith)
+returns c = record { count = c .before .loop .inv .1; each = λ s h. c .before .loop .inv .2 s (omega arith) }
 
 pub read-slots-spec : {M : Type 1} → statement M
 read-slots-spec =
