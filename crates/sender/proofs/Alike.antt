@@ -5,7 +5,7 @@ use mathlib.Core.Bool.{Bool, cond, _&&_}
 use mathlib.Core.List.{List}
 use lib.ListN.{getD}
 use lib.Dec.{eqb, ltb}
-use Rattle.placement.specs.Placement.{Job, State, Content, idle, address, message, frameOf, mayStart, ready, first, outOf, out, allOut}
+use Rattle.placement.specs.Placement.{Job, State, idle, address, message, frameOf, mayStart, ready, first, outOf, out, allOut}
 use Rattle.sender.proofs.Search.{least-same}
 
 abbrev pub Alike : ℕ → List ℕ → List ℕ → Type 0

@@ -9,14 +9,14 @@ use lib.Dec.{ltb}
 use Rattle.base.specs.Lists.{tab, padded}
 use Rattle.base.proofs.ListLaws.{tab-at}
 use Rattle.codeword.specs.Code.{codeword, messageBits}
-use Rattle.placement.specs.Placement.{Job, Framed, messages, Content, contentAt}
+use Rattle.placement.specs.Placement.{Job, Framed, messages, Content}
 use Rattle.placement.specs.Promise.{Holds, nothing, itsAddress, itsMessage}
 use Rattle.placement.proofs.Placed.{placed}
 use Rattle.transmission.specs.Sending.{Sending, noSending, sendingAt, framesOf, countsOf, placementOf, AllAllowed}
 use Rattle.transmission.specs.Transmission.{Codewords, codewordsOf, codewordIn, preamble, batchWord, wordAt, wordCount}
 use Rattle.transmission.proofs.Sendings.{pages-are, words-at, sendable}
 use Rattle.sender.specs.Step.{jobIn, codewordsIn}
-use Rattle.sender.specs.Start.{addressOf, messageOf, wordsOf, startAt, pagesFrom}
+use Rattle.sender.specs.Start.{addressOf, wordsOf, startAt, pagesFrom}
 use Rattle.sender.proofs.WordLaws.{map-at, pad-at, start-le, words-count, word-at}
 use Rattle.sender.proofs.Held.{Fit}
 

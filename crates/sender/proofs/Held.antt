@@ -1,7 +1,7 @@
 -- What the sender holds before slot n, in terms of the placement's state there: `held-next` is one slot. Assumes nothing.
 use mathlib.Core.Path.{_≡_, refl, sym, ap, _∙_}
 use Prim.Native.Nat.{ℕ, zero, suc, _+_, _-_, _≤_, _<_}
-use mathlib.Core.Bool.{Bool, true, false, not, cond, _&&_, _||_}
+use mathlib.Core.Bool.{Bool, true, false, cond, _&&_, _||_}
 use mathlib.Core.List.{List}
 use native.Mathlib.Omega.{arith}
 use native.Mathlib.Decide.{ℕ-discrete}
@@ -31,9 +31,9 @@ pub record Fit (p : PageTable) : Type 0 where
   pub short : messages (jobIn p) ≤ 4032
 
 -- the slot before slot n held a message codeword
-abbrev pub spoke : Job → ℕ → Bool
-spoke job zero = false
-spoke job (suc n) = isMessage (contentAt job n)
+abbrev pub lastMessage : Job → ℕ → Bool
+lastMessage job zero = false
+lastMessage job (suc n) = isMessage (contentAt job n)
 
 -- the sender before slot n, where the placement's state is st, and `last` says whether the slot before held a message codeword
 pub record Held (p : PageTable) (n : ℕ) (st : State) (last : Bool) (sent : List ℕ) (c : Cursor) : Type 0 where
@@ -46,7 +46,7 @@ pub record Held (p : PageTable) (n : ℕ) (st : State) (last : Bool) (sent : Lis
   pub message : isSet (c .message) ≡ last
 
 abbrev pub HeldAt : PageTable → ℕ → List ℕ → Cursor → Type 0
-HeldAt p n sent c = Held p n (stateAt (jobIn p) n) (spoke (jobIn p) n) sent c
+HeldAt p n sent c = Held p n (stateAt (jobIn p) n) (lastMessage (jobIn p) n) sent c
 
 pub held-preamble : {p : PageTable} {n : ℕ} {st : State} {last : Bool} {sent : List ℕ} {c : Cursor} → Held p n st last sent c → Held p n st last sent (afterPreamble c)
 held-preamble h = record { slot = h .slot; page = h .page; left = h .left; marks = h .marks; room = h .room; runs = h .runs; message = h .message }
@@ -100,7 +100,7 @@ module _ (p : PageTable) (fit : Fit p) where
         ap (λ (s : ℕ). out (jobIn p) s (viewOf p sent c)) (h .slot)
         ∙ out-alike (jobIn p) (viewOf p sent c) (stateAt (jobIn p) n) (h .page) (h .left) (h .marks) n
 
-    pub held-finished : finished p sent c ≡ cond (spoke (jobIn p) n) false (allOut (jobIn p) (stateAt (jobIn p) n))
+    pub held-finished : finished p sent c ≡ cond (lastMessage (jobIn p) n) false (allOut (jobIn p) (stateAt (jobIn p) n))
     unfolding finished
     held-finished = rw (h .message, all-out-alike (jobIn p) (viewOf p sent c) (stateAt (jobIn p) n) (h .page) (h .left) (h .marks))
 
@@ -121,7 +121,7 @@ module _ (p : PageTable) (fit : Fit p) where
             let k : c .page < p .count = omega (arith, r .1, h .page) in
             both-false (lt-leb _ _ k) (lt-leb _ _ w)
 
-    pub held-next : (words : List ℕ) → Left p words c (suc n) (stateAt (jobIn p) (suc n)) (spoke (jobIn p) (suc n)) (leaves (stateFrom p sent c words) (contentAt (jobIn p) n))
+    pub held-next : (words : List ℕ) → Left p words c (suc n) (stateAt (jobIn p) (suc n)) (lastMessage (jobIn p) (suc n)) (leaves (stateFrom p sent c words) (contentAt (jobIn p) n))
     unfolding leaves
     held-next words = go _ _ (slot (jobIn p) n)
       where

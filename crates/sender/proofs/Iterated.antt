@@ -9,7 +9,6 @@ use native.Mathlib.Omega.{arith}
 use native.Mathlib.Nat.{add-zero, add-suc, eq-or-lt-of-le}
 use native.Mathlib.Decide.{le-ind}
 use lib.ListN.{replicate, getD, getD-replicate}
-use lib.Dec.{eqb, ltb}
 use borrow.Author.Tests.{lt-ltb, eq-eqb, ne-eqb}
 use Rattle.codeword.specs.Code as code
 use Rattle.placement.specs.Placement.{stateAt, contentAt, isMessage, allOut, endsWith, batches}
@@ -21,12 +20,12 @@ use Rattle.sender.specs.declared.Cursor.{Cursor}
 use Rattle.sender.specs.declared.Sender.{Sender}
 use Rattle.sender.specs.declared.Stepped.{Stepped}
 use Rattle.sender.specs.declared.Answer.the-variants.{Word, Done}
-use Rattle.sender.specs.Step.{declined, jobIn, codewordsIn, sends, syncDue, afterSync, inBatch, afterPreamble, fromSound, stateFrom, stepOf}
+use Rattle.sender.specs.Step.{jobIn, codewordsIn, sends, syncDue, afterSync, inBatch, afterPreamble, fromSound, stateFrom, stepOf}
 use Rattle.sender.specs.Start.{atFirst, begun}
 use Rattle.sender.specs.Stepping.{after}
 use Rattle.sender.proofs.Search.{set-flag, clear-flag}
-use Rattle.sender.proofs.Ways.{here, led, synced, ended, way-sound, way-preamble, way-batch, way-done, way-sync, way-slot, way-in}
-use Rattle.sender.proofs.Held.{Fit, spoke, HeldAt, held-preamble, held-sync, held-first, held-content, held-finished, held-sound, held-next}
+use Rattle.sender.proofs.Ways.{here, gavePreamble, gaveSync, gaveDone, way-sound, way-preamble, way-batch, way-done, way-sync, way-slot, way-in}
+use Rattle.sender.proofs.Held.{Fit, lastMessage, HeldAt, held-preamble, held-sync, held-first, held-content, held-finished, held-sound, held-next}
 
 -- the sender before word k: in the preamble, before a batch, or before slot r of batch q
 data Phase (p : PageTable) (k : ℕ) (sent : List ℕ) (c : Cursor) : Type 0 where
@@ -75,7 +74,7 @@ module _ (p : PageTable) (words : List ℕ) (fit : Fit p) where
 
   -- before slot n all is over
   abbrev over : ℕ → Bool
-  over n = cond (spoke (jobIn p) n) false (allOut (jobIn p) (stateAt (jobIn p) n))
+  over n = cond (lastMessage (jobIn p) n) false (allOut (jobIn p) (stateAt (jobIn p) n))
 
   -- at the start of batch q + 1 it is exactly where that is the number of batches
   over-at : (b : ℕ) → over (16 * suc b) ≡ endsWith (jobIn p) b
@@ -112,7 +111,7 @@ module _ (p : PageTable) (words : List ℕ) (fit : Fit p) where
     sound-way : (n : ℕ) → HeldAt p n sent c → n ≤ 16 * batches (jobIn p) → stepOf (here p sent c words) ≡ fromSound (here p sent c words)
     sound-way n h l = way-sound p sent c words (held-sound p fit n sent c h (omega (arith, few-slots)))
 
-    lead-way : (l : ℕ) → c .preamble ≡ suc l → HeldAt p 0 sent c → stepOf (here p sent c words) ≡ led p sent c words
+    lead-way : (l : ℕ) → c .preamble ≡ suc l → HeldAt p 0 sent c → stepOf (here p sent c words) ≡ gavePreamble p sent c words
     lead-way l e h = sound-way 0 h (omega arith) ∙ way-preamble p sent c words (set-flag (c .preamble) (λ z. omega arith))
 
     batch-way : (n : ℕ) → HeldAt p n sent c → n ≤ 16 * batches (jobIn p) → c .preamble ≡ 0 → stepOf (here p sent c words) ≡ inBatch (here p sent c words)
@@ -121,10 +120,10 @@ module _ (p : PageTable) (words : List ℕ) (fit : Fit p) where
     due : (q : ℕ) → c .synced ≡ 0 → HeldAt p (16 * q) sent c → syncDue c ≡ true
     due q e h = due-is c e (omega (arith, h .slot))
 
-    sync-way : (q : ℕ) → q < batches (jobIn p) → c .preamble ≡ 0 → c .synced ≡ 0 → HeldAt p (16 * q) sent c → stepOf (here p sent c words) ≡ synced p sent c words
+    sync-way : (q : ℕ) → q < batches (jobIn p) → c .preamble ≡ 0 → c .synced ≡ 0 → HeldAt p (16 * q) sent c → stepOf (here p sent c words) ≡ gaveSync p sent c words
     sync-way q l z e h = batch-way (16 * q) h (omega arith) z ∙ way-sync p sent c words (due q e h) (held-finished p fit (16 * q) sent c h ∙ goes-on q l)
 
-    done-way : (q : ℕ) → q ≡ batches (jobIn p) → c .preamble ≡ 0 → c .synced ≡ 0 → HeldAt p (16 * q) sent c → stepOf (here p sent c words) ≡ ended p sent c words
+    done-way : (q : ℕ) → q ≡ batches (jobIn p) → c .preamble ≡ 0 → c .synced ≡ 0 → HeldAt p (16 * q) sent c → stepOf (here p sent c words) ≡ gaveDone p sent c words
     done-way q l z e h = batch-way (16 * q) h (omega arith) z ∙ way-done p sent c words (due q e h) (held-finished p fit (16 * q) sent c h ∙ all-over q l)
 
     slot-way : (n : ℕ) → n ≤ 16 * batches (jobIn p) → c .preamble ≡ 0 → syncDue c ≡ false → HeldAt p n sent c → stepOf (here p sent c words) ≡ sends (here p sent c words) (contentAt (jobIn p) n)
@@ -176,7 +175,7 @@ module _ (p : PageTable) (words : List ℕ) (fit : Fit p) where
         subst (Gave p words k) (sym (slot-way (16 * q + r) (omega arith) z f h))
         (ap Word (sym (slot-word q r e m)), record { sent = x .sent; cursor = x .cursor; is = x .is; phase = slot-phase q r e m n z (x .sent) (x .cursor) (x .held) (x .preamble) (x .synced) })
 
-    rests : k ≡ wordCount (jobIn p) → Phase p k sent c → stepOf (here p sent c words) ≡ ended p sent c words
+    rests : k ≡ wordCount (jobIn p) → Phase p k sent c → stepOf (here p sent c words) ≡ gaveDone p sent c words
     rests l (leads n e z f h) = absurd (omega arith)
     rests l (dues q e m z f h) = done-way q (omega arith) z f h
     rests l (slots q r e m n z f h) = absurd (omega arith)

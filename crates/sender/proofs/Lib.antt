@@ -1,5 +1,6 @@
 pub mod Search
 pub mod Alike
+pub mod EveryStep
 pub mod Ways
 pub mod Planned
 pub mod Held

@@ -10,9 +10,8 @@ use lib.Seq.{set-getD}
 use borrow.Author.Tests.{ltb-false, leb-false, lt-ltb, le-ltb}
 use Rattle.codeword.specs.Code as code
 use Rattle.base.specs.Search.{least}
-use Rattle.base.proofs.Bools.{and-true, true-false}
 use Rattle.base.proofs.SearchLaws.{least-only}
-use Rattle.placement.specs.Placement.{Content, idle, address, message, mayStart, ready, first, out, outOf, allOut}
+use Rattle.placement.specs.Placement.{idle, address, message, mayStart, ready, first, out, outOf, allOut}
 use Rattle.placement.proofs.Placed.{all-out, out-all}
 use Rattle.placement.proofs.Steps.{slot-runs}
 use Rattle.transmission.specs.Transmission.{preamble, codewordIn}
@@ -25,7 +24,7 @@ use Rattle.sender.specs.declared.Sender.{Sender}
 use Rattle.sender.specs.declared.Stepped.{Stepped}
 use Rattle.sender.specs.declared.Answer.{Answer}
 use Rattle.sender.specs.declared.Answer.the-variants.{Word}
-use Rattle.sender.specs.Step.{isSet, flagOf, pageWrong, wrongAt, runWrong, declined, jobIn, viewOf, holds, afterIdle, afterAddress, afterMessage, stateFrom, leaves, sends, inSlot, syncDue, finished, afterSync, inBatch, afterPreamble, fromSound, stepOf}
+use Rattle.sender.specs.Step.{flagOf, wrongAt, runWrong, declined, jobIn, viewOf, holds, afterIdle, afterMessage, stateFrom, leaves, sends, inSlot, syncDue, finished, afterSync, inBatch, afterPreamble, fromSound, stepOf}
 use Rattle.sender.specs.Plan.{said, unmarked, stateOf, PlanOk}
 use Rattle.sender.proofs.Search.{or-false, set-flag, clear-flag, found-none}
 use Rattle.sender.proofs.Ways.{here, way-declined, way-sound, way-preamble, way-batch, way-done, way-sync, way-slot, way-in}
@@ -141,11 +140,12 @@ module _ (p : PageTable) (sent : List ℕ) (c : Cursor) where
         page-in = lit< tt;
       })
 
-  pub idle-ok : c .running ≡ 0 → p .count ≤ found → {r : Plan} → r ≡ unmarked (Fixed code.idle) 0 sent (afterIdle c) → PlanOk inSlot p sent c r
+  pub idle-ok : c .running ≡ 0 → p .count ≤ found → {w : ℕ} {r : Plan} → w ≡ code.idle → r ≡ unmarked (Fixed w) 0 sent (afterIdle c) → PlanOk inSlot p sent c r
   unfolding leaves codewordIn
-  idle-ok r e =
+  idle-ok r e i q =
       keeps inSlot (Fixed code.idle) 0 (afterIdle c) (lit< tt)
       (λ words. way-in p sent c words ∙ ap (sends (here p sent c words)) (open-slot r ∙ ap (λ (b : Bool). cond b (address found) idle) (le-ltb found (p .count) e)))
+      (q ∙ ap (λ (v : ℕ). unmarked (Fixed v) 0 sent (afterIdle c)) i)
 
   -- the cursor with this flag and place
   abbrev went : ℕ → Cursor
@@ -178,8 +178,8 @@ module _ (p : PageTable) (sent : List ℕ) (c : Cursor) where
   pub done-ok : syncDue c ≡ true → finished p sent c ≡ true → {r : Plan} → r ≡ unmarked End 0 sent c → PlanOk inBatch p sent c r
   done-ok d f = keeps inBatch End 0 c (lit< tt) (λ words. way-done p sent c words d f)
 
-  pub sync-ok : syncDue c ≡ true → finished p sent c ≡ false → {r : Plan} → r ≡ unmarked (Fixed code.sync) 0 sent (afterSync c) → PlanOk inBatch p sent c r
-  sync-ok d f = keeps inBatch (Fixed code.sync) 0 (afterSync c) (lit< tt) (λ words. way-sync p sent c words d f)
+  pub sync-ok : syncDue c ≡ true → finished p sent c ≡ false → {w : ℕ} {r : Plan} → w ≡ code.sync → r ≡ unmarked (Fixed w) 0 sent (afterSync c) → PlanOk inBatch p sent c r
+  sync-ok d f i q = keeps inBatch (Fixed code.sync) 0 (afterSync c) (lit< tt) (λ words. way-sync p sent c words d f) (q ∙ ap (λ (v : ℕ). unmarked (Fixed v) 0 sent (afterSync c)) i)
 
   pub slot-ok : syncDue c ≡ false → {r : Plan} → PlanOk inSlot p sent c r → PlanOk inBatch p sent c r
   slot-ok d = up inSlot inBatch (λ words. way-slot p sent c words d)

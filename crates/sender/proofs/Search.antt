@@ -1,18 +1,22 @@
 -- Laws of the tests and searches of a step. Assumes nothing.
 use mathlib.Core.Path.{_≡_, refl, _∙_}
-use Prim.Native.Nat.{ℕ, _≤_, _<_}
-use mathlib.Core.Bool.{Bool, true, false, not, _||_}
+use Prim.Native.Nat.{ℕ, _<_}
+use mathlib.Core.Bool.{Bool, true, false, _||_}
 use native.Mathlib.Omega.{arith}
 use lib.Dec.{eqb, ltb}
 use borrow.Author.Tests.{ltb-true, ltb-false, eqb-true, eqb-false, eq-eqb, ne-eqb, not-true, not-false}
 use Rattle.base.specs.Search.{least}
 use Rattle.base.proofs.Bools.{true-false}
-use Rattle.base.proofs.SearchLaws.{Least, least-is, least-only}
+use Rattle.base.proofs.SearchLaws.{least-is, least-only}
 use Rattle.sender.specs.Step.{isSet}
 
 pub or-false : (a b : Bool) → a || b ≡ false → (a ≡ false) × (b ≡ false)
 or-false true b e = absurd (true-false refl e)
 or-false false b e = (refl, e)
+
+pub or-right : (a : Bool) {b : Bool} → b ≡ true → a || b ≡ true
+or-right true q = refl
+or-right false q = q
 
 pub both-false : {a b : Bool} → a ≡ false → b ≡ false → a || b ≡ false
 both-false p q = rw (p, q)

@@ -3,25 +3,27 @@
 use Prim.Native.Nat.{ℕ, zero, suc, _≤_, _<_, zero-le, suc-le-suc}
 use mathlib.Core.Path.{_≡_, refl, sym, ap, subst, _∙_}
 use mathlib.Core.Logic.{⊎-elim}
-use mathlib.Core.List.{List, [], _∷_, _++_, map}
+use mathlib.Core.List.{List, _∷_, _++_, map}
 use native.Mathlib.Nat.{not-suc-le-zero, le-of-suc-le-suc, le-refl}
 use native.Mathlib.Omega.{arith}
-use lib.ListN.{length, take, replicate}
+use lib.ListN.{take, replicate}
+use Rattle.base.specs.Search.{least}
 use Rattle.base.specs.Lists.{tab, padded}
 use Rattle.base.proofs.ListLaws.{map-tab}
 use Rattle.base.proofs.SearchLaws.{le-or-lt}
-use Rattle.job.specs.Job.{jobOf}
 use Rattle.job.specs.declared.JobAnswer.{JobAnswer}
+use Rattle.placement.specs.Placement.{allOut}
 use Rattle.transmission.specs.Sending.{Sending, sendingsOf, placementOf, AllAllowed}
 use Rattle.transmission.specs.Transmission.{codewordsOf, wordAt, wordCount, transmission, transmissionOf}
 use Rattle.transmission.proofs.Sendings.{accepted-sendings}
 use Rattle.transmission.proofs.TransmissionLaws.{transmission-length}
 use Rattle.sender.specs.declared.Sender.{Sender}
 use Rattle.sender.specs.declared.Answer.{Answer}
-use Rattle.sender.specs.declared.Answer.the-variants.{Word, Done, Refused}
-use Rattle.sender.specs.Step.{stepOf}
-use Rattle.sender.specs.Start.{wordsOf, pagesFrom, startOf, stateBy, startedOf}
-use Rattle.sender.specs.Stepping.{answers, after, Stepping, JobStepping}
+use Rattle.sender.specs.declared.Answer.the-variants.{Word, Done}
+use Rattle.sender.specs.Answer.{numberOf}
+use Rattle.sender.specs.Step.{runWrong, declined, syncDue, finished, inBatch, fromSound, stepOf}
+use Rattle.sender.specs.Start.{wordsOf, pagesFrom, startOf, noState, stateBy, startedOf}
+use Rattle.sender.specs.Stepping.{answers, after, Stepping, JobStepping, NoStepping}
 use Rattle.sender.proofs.Begun.{fit-of, word-is, count-is}
 use Rattle.sender.proofs.Iterated.{after-suc, gives-word, past-end}
 
@@ -71,11 +73,8 @@ module _ (xs : List Sending) (a : AllAllowed xs) where
   stepping =
       record {
         words-then-done = all-answers;
-        none-declined = λ n e.
-            ⊎-elim
-            (λ l. let q : _≡_ {A = ℕ} 0 1 = cc (rest n l .0) in omega arith)
-            (λ l. let q : _≡_ {A = ℕ} 0 1 = cc (word n l) in omega arith)
-            (le-or-lt total n);
+        none-declined = λ n.
+            ⊎-elim (λ l. ap numberOf (rest n l .0)) (λ l. ap numberOf (word n l)) (le-or-lt total n);
         at-rest = λ n l. after-suc n start ∙ rest n (omega (arith, transmission-length (codewordsOf xs) (placementOf xs))) .1;
       }
 
@@ -83,3 +82,12 @@ pub job-stepping : JobStepping
 unfolding startedOf
 job-stepping s n ok =
     subst (λ (r : JobAnswer). Stepping (sendingsOf s) (stateBy r (sendingsOf s))) (sym ok) (stepping (sendingsOf s) (accepted-sendings s n ok))
+
+-- the state of a refused job is at rest
+none-steps : stepOf noState ≡ record { answer = Done; state = noState }
+unfolding noState stepOf declined runWrong least fromSound inBatch syncDue finished allOut
+none-steps = refl
+
+pub no-stepping : NoStepping
+unfolding startedOf
+no-stepping s why place ok = rw ok none-steps

@@ -16,47 +16,47 @@ module _ (p : PageTable) (sent : List ℕ) (c : Cursor) (words : List ℕ) where
   abbrev pub here : Sender
   here = stateFrom p sent c words
 
-  abbrev pub led : Stepped
-  led = record { answer = Word preamble; state = stateFrom p sent (afterPreamble c) words }
+  abbrev pub gavePreamble : Stepped
+  gavePreamble = record { answer = Word preamble; state = stateFrom p sent (afterPreamble c) words }
 
-  abbrev pub synced : Stepped
-  synced = record { answer = Word code.sync; state = stateFrom p sent (afterSync c) words }
+  abbrev pub gaveSync : Stepped
+  gaveSync = record { answer = Word code.sync; state = stateFrom p sent (afterSync c) words }
 
-  abbrev pub ended : Stepped
-  ended = record { answer = Done; state = here }
+  abbrev pub gaveDone : Stepped
+  gaveDone = record { answer = Done; state = here }
 
-  abbrev pub refused : Stepped
-  refused = record { answer = Refused; state = here }
+  abbrev pub gaveRefusal : Stepped
+  gaveRefusal = record { answer = Refused; state = here }
 
-  pub way-declined : declined p c ≡ true → stepOf here ≡ refused
+  pub way-declined : declined p c ≡ true → stepOf here ≡ gaveRefusal
   unfolding stepOf
-  way-declined e = ap (λ (b : Bool). cond b refused (fromSound here)) e
+  way-declined e = ap (λ (b : Bool). cond b gaveRefusal (fromSound here)) e
 
   pub way-sound : declined p c ≡ false → stepOf here ≡ fromSound here
   unfolding stepOf
-  way-sound e = ap (λ (b : Bool). cond b refused (fromSound here)) e
+  way-sound e = ap (λ (b : Bool). cond b gaveRefusal (fromSound here)) e
 
-  pub way-preamble : isSet (c .preamble) ≡ true → fromSound here ≡ led
+  pub way-preamble : isSet (c .preamble) ≡ true → fromSound here ≡ gavePreamble
   unfolding fromSound
-  way-preamble e = ap (λ (b : Bool). cond b led (inBatch here)) e
+  way-preamble e = ap (λ (b : Bool). cond b gavePreamble (inBatch here)) e
 
   pub way-batch : isSet (c .preamble) ≡ false → fromSound here ≡ inBatch here
   unfolding fromSound
-  way-batch e = ap (λ (b : Bool). cond b led (inBatch here)) e
+  way-batch e = ap (λ (b : Bool). cond b gavePreamble (inBatch here)) e
 
-  way-due : syncDue c ≡ true → inBatch here ≡ cond (finished p sent c) ended synced
+  way-due : syncDue c ≡ true → inBatch here ≡ cond (finished p sent c) gaveDone gaveSync
   unfolding inBatch
-  way-due e = ap (λ (b : Bool). cond b (cond (finished p sent c) ended synced) (inSlot here)) e
+  way-due e = ap (λ (b : Bool). cond b (cond (finished p sent c) gaveDone gaveSync) (inSlot here)) e
 
-  pub way-done : syncDue c ≡ true → finished p sent c ≡ true → inBatch here ≡ ended
-  way-done d f = way-due d ∙ ap (λ (b : Bool). cond b ended synced) f
+  pub way-done : syncDue c ≡ true → finished p sent c ≡ true → inBatch here ≡ gaveDone
+  way-done d f = way-due d ∙ ap (λ (b : Bool). cond b gaveDone gaveSync) f
 
-  pub way-sync : syncDue c ≡ true → finished p sent c ≡ false → inBatch here ≡ synced
-  way-sync d f = way-due d ∙ ap (λ (b : Bool). cond b ended synced) f
+  pub way-sync : syncDue c ≡ true → finished p sent c ≡ false → inBatch here ≡ gaveSync
+  way-sync d f = way-due d ∙ ap (λ (b : Bool). cond b gaveDone gaveSync) f
 
   pub way-slot : syncDue c ≡ false → inBatch here ≡ inSlot here
   unfolding inBatch
-  way-slot e = ap (λ (b : Bool). cond b (cond (finished p sent c) ended synced) (inSlot here)) e
+  way-slot e = ap (λ (b : Bool). cond b (cond (finished p sent c) gaveDone gaveSync) (inSlot here)) e
 
   pub way-in : inSlot here ≡ sends here (holds p sent c)
   unfolding inSlot

@@ -1,4 +1,4 @@
--- The state that an accepted job gives (document 01, "The steps start from the state that an accepted job gives").
+-- What starting a job answers, and the state from which its steps go (document 01, "Placement").
 use Prim.Native.Nat.{ℕ}
 use mathlib.Core.List.{List, [], _∷_, _++_, map}
 use lib.ListN.{length, take, replicate}

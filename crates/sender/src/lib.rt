@@ -5,7 +5,7 @@ ghost use Prim.Native.Nat.{_≤_};
 ghost use lib.Dec.{ltb};
 ghost use lib.ListN.{length};
 ghost use Rattle.base.specs.Hex.{bytesOf};
-ghost use Rattle.base.specs.Lists.{over, tab, padded};
+ghost use Rattle.base.specs.Lists.{over, tab};
 ghost use Rattle.base.specs.Search.{least};
 ghost use Rattle.codeword.specs.Code.{codeword, messageBits};
 ghost use Rattle.text.specs.Coding.{groupOf};
@@ -262,7 +262,7 @@ fn plan_open(p: PageTable, sent: [u8; 48], c: Cursor) -> Plan
     n.synced = 0;
     n.message = 0;
     if index(p.count) <= k {
-        return keep(Output::Fixed(0x7A89_C197), 0, sent, n);
+        return keep(Output::Fixed(Codeword::IDLE.word()), 0, sent, n);
     }
     n.page = k as u32;
     n.word = 0;
@@ -329,7 +329,7 @@ fn plan_batch(p: PageTable, sent: [u8; 48], c: Cursor) -> Plan
     }
     let mut n = c;
     n.synced = 1;
-    keep(Output::Fixed(0x7CD2_15D8), 0, sent, n)
+    keep(Output::Fixed(Codeword::SYNC.word()), 0, sent, n)
 }
 
 // The preamble; then the batches.
@@ -413,11 +413,11 @@ pub fn step(s: &mut Sender) -> Answer
 pub fn step_owned(s: Sender) -> Stepped
     ensures { λ r. ⌜ r ≡ stepOf s ⌝ }
 {
-    let mut t = s;
-    let a = step(&mut t);
+    let mut kept = s;
+    let given = step(&mut kept);
     Stepped {
-        answer: a,
-        state: t,
+        answer: given,
+        state: kept,
     }
 }
 
@@ -477,18 +477,20 @@ fn lay_out(job: &[u8], read: job::Pages, n: usize, words: &mut [u32]) -> PageTab
 fn begin(pages: PageTable, words: [u32; 4032]) -> Sender
     ensures { λ r. ⌜ r ≡ begun pages words ⌝ }
 {
+    let cursor = Cursor {
+        slot: 0,
+        page: 0,
+        word: 0,
+        preamble: 18,
+        synced: 0,
+        running: 0,
+        message: 0,
+    };
+    let unsent = [0u8; 48];
     Sender {
-        cursor: Cursor {
-            slot: 0,
-            page: 0,
-            word: 0,
-            preamble: 18,
-            synced: 0,
-            running: 0,
-            message: 0,
-        },
+        cursor: cursor,
         pages: pages,
-        sent: [0u8; 48],
+        sent: unsent,
         words: words,
     }
 }

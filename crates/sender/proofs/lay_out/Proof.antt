@@ -1,7 +1,6 @@
 -- `sender::lay_out` meets its contract. The invariant: the pages passed are laid out. Assumes nothing.
-use Prim.Native.Nat.{ℕ, _+_, _*_, _≤_, _-_}
+use Prim.Native.Nat.{ℕ, _+_, _≤_, _-_}
 use mathlib.Core.Path.{_≡_, refl, sym, ap, _∙_}
-use mathlib.Core.List.{List}
 use native.Mathlib.Omega.{arith}
 use lib.ListN.{length, getD, take, drop, length-drop}
 use denote.Ref.{now}
@@ -13,7 +12,7 @@ use Rattle.text.specs.Coding.{groupOf, groupsOf}
 use Rattle.text.specs.declared.Coding.{Coding}
 use Rattle.transmission.specs.Sending.{Sending, sendingsOf}
 use Rattle.transmission.proofs.Sendings.{sendings-count, accepted-sendings}
-use Rattle.transmission.proofs.Plan.{few-characters}
+use Rattle.transmission.proofs.Prepared.{few-characters}
 use Rattle.transmission.proofs.Planned.{page-sending}
 use Rattle.sender.proofs.Laid.{Laid, laid-none, groups-are, message-is, laid-at, laid-room, laid-fits, laid-more, laid-pages, laid-words}
 use borrow.Author.Needs.{needs}

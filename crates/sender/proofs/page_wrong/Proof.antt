@@ -1,7 +1,4 @@
 -- `sender::page_wrong` meets its contract. Assumes nothing.
-use Prim.Native.Nat.{ℕ, _+_}
-use lib.Dec.{ltb}
-use mathlib.Core.Path.{ap, _∙_}
 use borrow.Author.Tests.{lt-ltb, le-ltb}
 use borrow.Author.Needs.{needs}
 use Rattle.sender.proofs.page_wrong.Statement.{statement}

@@ -28,13 +28,16 @@ returns-2 c =
     let a = c .before .before .before .before .before .args in
     done-ok (a .p) (a .sent) (a .c) (sym (c .before .before .before .before .sync-due .ensures) ∙ not-false _ (c .before .before .before .if1 .left)) (sym (c .before .before .is-finished .ensures) ∙ c .before .if2 .taken) (c .keep .ensures)
 
+word-requires : tie.Need-word-requires
+word-requires c κs = search needs
+
 keep-requires-2 : tie.Need-keep-requires-2
 keep-requires-2 c κs = search needs
 
 returns-3 : tie.Need-returns-3
 returns-3 c =
-    let a = c .before .before .before .before .before .args in
-    sync-ok (a .p) (a .sent) (a .c) (sym (c .before .before .before .before .sync-due .ensures) ∙ not-false _ (c .before .before .before .if1 .left)) (sym (c .before .before .is-finished .ensures) ∙ c .before .if2 .left) (c .keep2 .ensures)
+    let a = c .before .before .before .before .before .before .args in
+    sync-ok (a .p) (a .sent) (a .c) (sym (c .before .before .before .before .before .sync-due .ensures) ∙ not-false _ (c .before .before .before .before .if1 .left)) (sym (c .before .before .before .is-finished .ensures) ∙ c .before .before .if2 .left) (c .before .word .ensures) (c .keep2 .ensures)
 
 pub plan-batch-spec : {M : Type 1} → statement M
 plan-batch-spec =
@@ -46,5 +49,6 @@ plan-batch-spec =
     is-finished-requires
     keep-requires
     returns-2
+    word-requires
     keep-requires-2
     returns-3)

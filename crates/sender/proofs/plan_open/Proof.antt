@@ -1,9 +1,5 @@
 -- `sender::plan_open` meets its contract. Assumes nothing.
-use Prim.Native.Nat.{ℕ, _≤_, _<_}
-use mathlib.Core.Path.{ap, sym, _∙_}
 use native.Mathlib.Omega.{arith}
-use lib.Dec.{ltb}
-use borrow.Author.Tests.{le-ltb}
 use Rattle.sender.proofs.Planned.{idle-ok, address-ok}
 use borrow.Author.Needs.{needs}
 use Rattle.sender.proofs.plan_open.Statement.{statement}
@@ -18,14 +14,17 @@ add-n c = search needs
 index-requires : tie.Need-index-requires
 index-requires c κs = search needs
 
+word-requires : tie.Need-word-requires
+word-requires c κs = search needs
+
 keep-requires : tie.Need-keep-requires
 keep-requires c κs = search needs
 
 returns : tie.Need-returns
 returns c =
-    let b = c .before .before .before .before .before in
+    let b = c .before .before .before .before .before .before in
     let a = b .args in
-    idle-ok (a .t1) (a .sent) (a .c) (b .pre .1) (omega (arith, c .before .before .before .before .find-page .ensures, c .before .before .index .ensures)) (c .keep .ensures)
+    idle-ok (a .t1) (a .sent) (a .c) (b .pre .1) (omega (arith, c .before .before .before .before .before .find-page .ensures, c .before .before .before .index .ensures)) (c .before .word .ensures) (c .keep .ensures)
 
 cast-n : tie.Need-cast-n
 cast-n c = search needs
@@ -49,7 +48,8 @@ returns-2 : tie.Need-returns-2
 returns-2 c =
     let b = c .before .before .before .before .before .before .before in
     let a = b .args in
-    address-ok (a .t1) (a .sent) (a .c) (b .pre .1) (b .pre .0 .0) (c .before .before .before .before .before .before .find-page .result) (c .before .flag .result) (c .before .before .before .before .before .before .find-page .ensures) (omega (arith, c .before .before .before .before .index .ensures)) (c .before .flag .ensures)
+    let k = c .before .before .before .before .before .before .find-page in
+    address-ok (a .t1) (a .sent) (a .c) (b .pre .1) (b .pre .0 .0) (k .result) (c .before .flag .result) (k .ensures) (omega (arith, c .before .before .before .before .index .ensures)) (c .before .flag .ensures)
 
 pub plan-open-spec : {M : Type 1} → statement M
 plan-open-spec =
@@ -58,6 +58,7 @@ plan-open-spec =
     find-page-requires
     add-n
     index-requires
+    word-requires
     keep-requires
     returns
     cast-n

@@ -1,11 +1,11 @@
 -- `sender::plan_slot` meets its contract. Assumes nothing.
 use Prim.Native.Nat.{ℕ, _+_}
-use mathlib.Core.Path.{ap, sym, _∙_}
+use mathlib.Core.Path.{ap, _∙_}
 use native.Mathlib.Omega.{arith}
 use lib.Dec.{ltb}
 use lib.ListN.{getD}
 use Rattle.sender.specs.Step.{flagOf}
-use Rattle.sender.proofs.Planned.{sound-count, sound-slot, sound-page, sound-word, sound-at, message-ok}
+use Rattle.sender.proofs.Planned.{sound-count, sound-slot, sound-page, sound-at, message-ok}
 use borrow.Author.Needs.{needs}
 use Rattle.sender.proofs.plan_slot.Statement.{statement}
 use Rattle.sender.proofs.plan_slot.Tie as tie

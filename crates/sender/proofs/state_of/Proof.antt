@@ -1,5 +1,5 @@
 -- `sender::state_of` meets its contract. Assumes nothing.
-use mathlib.Core.Path.{ap, ap₂, _∙_}
+use mathlib.Core.Path.{ap₂, _∙_}
 use denote.Ref.{now}
 use Rattle.base.proofs.ListLaws.{over-zeros}
 use Rattle.transmission.specs.Sending.{sendingsOf}

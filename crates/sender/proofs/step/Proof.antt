@@ -1,6 +1,6 @@
--- `sender::step` meets its contract: a walk of its MIR, by hand. The borrow is opened; the small fields are copied out and passed to `plan_step`; one message word is read where it lies, one flag and the cursor are written where they lie; the borrow is closed at the new record; and `answer_with` makes the answer.
--- All that it knows of `plan_step` and of `answer_with` is that each meets its contract. `Elem.antt` reaches an element of an array field.
--- Assumes nothing.
+-- `sender::step` meets its contract, by hand, statement by statement. The borrow is opened; the small fields are copied out and passed to
+-- `plan_step`; one message word is read where it lies, one flag and the cursor are written where they lie; the borrow is closed at the
+-- new state; and `answer_with` makes the answer. Of these two functions it knows only that each meets its contract. Assumes nothing.
 use mathlib.Core.Path.{_≡_, refl, sym, ap, subst, _∙_}
 use Prim.Native.Nat.{ℕ, _<_, _^_, _*_, _+_}
 use native.Mathlib.Omega.{arith}
