@@ -6,12 +6,19 @@ use native.Mathlib.Nat.{not-suc-le-zero, le-of-suc-le-suc}
 use native.Mathlib.Numerals.{add-one}
 use native.Mathlib.Omega.{arith}
 use lib.ListN.{length, set, getD, take, drop, replicate, length-drop, length-append, drop-of-length-le}
-use lib.Seq.{take-all, drop-cons, drop-drop, append-snoc, take-append-seam, drop-append-seam, set-append-seam}
+use lib.Seq.{take-all, take-nil, drop-cons, drop-drop, append-snoc, take-append-seam, drop-append-seam, set-append-seam}
 use Rattle.base.specs.Lists.{over, tab, padded}
 
 -- a part that goes to the end of its slice
 pub to-end : (a : ℕ) (l : List ℕ) → take (length l - a) (drop a l) ≡ drop a l
 to-end a l = take-all (length l - a) (drop a l) (omega (arith, length-drop a l))
+
+-- a part of a part
+pub drop-take : (m n : ℕ) (l : List ℕ) → drop m (take n l) ≡ take (n - m) (drop m l)
+drop-take zero n l = let e : n - 0 ≡ n = omega arith in rw e
+drop-take (suc m) zero l = let e : 0 - suc m ≡ 0 = omega arith in rw e
+drop-take (suc m) (suc n) [] = sym (take-nil (suc n - suc m))
+drop-take (suc m) (suc n) (x ∷ l) = let e : suc n - suc m ≡ n - m = omega arith in rw e (drop-take m n l)
 
 -- ---- filling loops
 

@@ -7,7 +7,7 @@ use mathlib.Core.Logic.{⊎-elim}
 use native.Mathlib.Nat.{eq-or-lt-of-le}
 use native.Mathlib.Omega.{arith}
 use lib.ListN.{length, getD, take, drop, replicate, length-drop, length-map, List·getD-append, List·getD-map}
-use lib.Seq.{take-nil, drop-drop}
+use lib.Seq.{drop-drop}
 use lib.Dec.{leb, eqb}
 use borrow.Author.Tests.{leb-false, eqb-true, eqb-false}
 use Rattle.base.specs.Hex.{bytesOf}
@@ -16,6 +16,7 @@ use Rattle.base.specs.Lists.{padded}
 use Rattle.base.proofs.Bools.{and-true, or-true}
 use Rattle.base.proofs.HexLaws.{bytes-length}
 use Rattle.base.proofs.LinesLaws.{end-after, end-inside, cut}
+use Rattle.base.proofs.ListLaws.{drop-take}
 use Rattle.job.specs.Line.{allHex, isPairs, headFormed, tailFormed, wellFormed, lineOf, textPairs, textOf}
 use Rattle.job.specs.Pages.{Page, pageFrom, pagesFrom, pagesOf, noPage, pageAt}
 use Rattle.job.specs.Job.{after, judge, jobOf, tableOf, answerWith, readingOf}
@@ -97,12 +98,6 @@ stands s (suc p) at h i =
     rw (pages-next s at c, cut s at c) (stands s p (lineEnd s at + 1) (omega arith) (omega (arith, ap length (pages-next s at c))))
 
 -- ---- a page's text
-
-drop-take : (m n : ℕ) (l : List ℕ) → drop m (take n l) ≡ take (n - m) (drop m l)
-drop-take zero n l = let e : n - 0 ≡ n = omega arith in rw e
-drop-take (suc m) zero l = let e : 0 - suc m ≡ 0 = omega arith in rw e
-drop-take (suc m) (suc n) [] = sym (take-nil (suc n - suc m))
-drop-take (suc m) (suc n) (x ∷ l) = let e : suc n - suc m ≡ n - m = omega arith in rw e (drop-take m n l)
 
 -- what stands behind a well-formed line's ninth byte are pairs
 even : (t : List ℕ) → tailFormed t ≡ true → length (drop 1 t) % 2 ≡ 0

@@ -9,17 +9,18 @@ use native.Mathlib.Omega.{arith}
 use borrow.Author.Tests.{eq-eqb, ne-eqb, eqb-true, eqb-false, leb-true, leb-false}
 use lib.Dec.{eqb, leb}
 use lib.ListN.{length, getD, take, drop, length-drop, List·getD-eq-default}
-use lib.Seq.{length-take-le, take-take, getD-take, getD-drop, drop-drop, drop-cons, take-nil}
+use lib.Seq.{length-take-le, take-take, getD-take, getD-drop, drop-drop, drop-cons}
 use Rattle.base.specs.Hex.{isHex}
 use Rattle.base.specs.Leading.{leading}
 use Rattle.base.specs.Lines.{Lines, behind, line, split, lineAt, notNewline, lineEnd}
 use Rattle.base.proofs.Bools.{either, true-false, and-true, and-false}
 use Rattle.base.proofs.LeadingLaws.{leading-le}
 use Rattle.base.proofs.LinesLaws.{cut, uncut}
+use Rattle.base.proofs.ListLaws.{drop-take}
 use Rattle.listing.specs.Listing.{isWord, hasOne, hasTwo}
 use Rattle.listing.specs.Scan.{lineFrom}
 
--- ---- lists and Booleans
+-- ---- Booleans and bytes
 
 and-turn : (p q r : Bool) → (p && q) && r ≡ q && (p && r)
 and-turn true q r = refl
@@ -29,11 +30,6 @@ and-turn false false r = refl
 false-of : (p : Bool) → (p ≡ true → ⊥) → p ≡ false
 false-of true f = absurd (f refl)
 false-of false f = refl
-
-pub drop-take : (n m : ℕ) (s : List ℕ) → drop n (take (n + m) s) ≡ take m (drop n s)
-drop-take zero m s = let z : 0 + m ≡ m = omega arith in rw z
-drop-take (suc n) m [] = let z : suc n + m ≡ suc (n + m) = omega arith in rw (z, take-nil)
-drop-take (suc n) m (b ∷ s) = let z : suc n + m ≡ suc (n + m) = omega arith in rw z (drop-take n m s)
 
 -- a byte other than 0 stands inside
 inside : (d : List ℕ) (n v : ℕ) → getD d n 0 ≡ v → 0 < v → n < length d
@@ -150,7 +146,7 @@ module _ (d : List ℕ) where
         let z = eqb-true n 17 f in
         let y : getD d 17 0 ≡ 10 = rw z at ends-at in
         let x : length (take 8 (drop 9 d)) ≡ 8 = length-take-le 8 (drop 9 d) (omega (arith, length-drop 9 d)) in
-        rw (z, take-take 8 17 d (omega arith), getD-take 17 d 8 0 (omega arith), drop-take 9 8 d, length-take-le 8 d (omega arith), x, eq-eqb (getD d 17 0) 10 y)
+        rw (z, take-take 8 17 d (omega arith), getD-take 17 d 8 0 (omega arith), drop-take 9 17 d, length-take-le 8 d (omega arith), x, eq-eqb (getD d 17 0) 10 y)
         (and-turn (eqb (leading isHex (take 8 d)) 8) (eqb (getD d 8 0) 32) (eqb (leading isHex (take 8 (drop 9 d))) 8)))
         (λ (f : eqb n 17 ≡ false).
         let x : eqb (length (drop 9 (take n d))) 8 ≡ false = ne-eqb (length (drop 9 (take n d))) 8 (λ g. eqb-false n 17 f (omega (arith, length-drop 9 (take n d), length-take-le n d (omega arith)))) in

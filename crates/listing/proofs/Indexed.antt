@@ -12,7 +12,7 @@ use lib.Seq.{take-take, drop-drop, length-take-le}
 use Rattle.base.specs.Lines.{Lines, behind, line, split, lineAt}
 use Rattle.base.specs.Lists.{over, tab}
 use Rattle.base.proofs.Bools.{either}
-use Rattle.base.proofs.ListLaws.{tab-length, tab-at, tab-same}
+use Rattle.base.proofs.ListLaws.{drop-take, tab-length, tab-at, tab-same}
 use Rattle.listing.specs.Listing.{hasOne, hasTwo, isDue, batches, listingOf}
 use Rattle.listing.specs.Words.{lineWords, wordsIn, wordsOf, wordAt}
 use Rattle.listing.specs.Formed.{Formed}
@@ -23,7 +23,7 @@ use Rattle.listing.specs.declared.Fault.the-variants.{ShortBuffer}
 use Rattle.listing.specs.declared.Listing.the-variants.{WellFormed, Declined}
 use Rattle.listing.specs.declared.Reading.{Reading}
 use Rattle.listing.specs.declared.Reading.the-variants.{Words, Unread}
-use Rattle.listing.proofs.FirstLine.{alone, pair, alone-line, pair-line, pair-inside, one-word, two-words, drop-take}
+use Rattle.listing.proofs.FirstLine.{alone, pair, alone-line, pair-line, pair-inside, one-word, two-words}
 use Rattle.listing.proofs.BatchLaws.{below-limit, line-formed, end-formed, batches-formed, listing-formed}
 
 line-parts : {l l' : List ℕ} {ls ls' : Lines} → line l ls ≡ line l' ls' → (l ≡ l') × (ls ≡ ls')
@@ -57,7 +57,7 @@ module _ (s : List ℕ) (k : ℕ) where
       let long : length (take 17 d) ≡ 17 = length-take-le 17 d (omega (arith, pair-inside d here)) in
       let y : 9 * (k + 1) ≡ 9 * k + 9 = omega arith in
       let z : 9 * (k + 2) ≡ 9 * k + 18 = omega arith in
-      (rw (← (p .0), long, take-take 8 17 d (omega arith), drop-take 9 8 d, y, ← (drop-drop 9 (9 * k) s)), rw (z, ← (drop-drop 18 (9 * k) s)) (p .1))
+      (rw (← (p .0), long, take-take 8 17 d (omega arith), drop-take 9 17 d, y, ← (drop-drop 9 (9 * k) s)), rw (z, ← (drop-drop 18 (9 * k) s)) (p .1))
 
 -- how many words q lines behind the preamble have: two each, but one where a batch begins
 abbrev pub wordsBefore : ℕ → ℕ
