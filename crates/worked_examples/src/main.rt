@@ -5,6 +5,7 @@ use codeword::Correction;
 use job::JobAnswer;
 use libc::STDIN_FILENO;
 use libc::STDOUT_FILENO;
+use reader::Reading;
 use text::Coding;
 use transmission::Report;
 
@@ -231,6 +232,101 @@ fn pages_of(bytes: &[u8], n: usize) -> usize {
     }
 }
 
+// A bar for a newline, and any other byte as it is.
+fn bar_for_newline(b: u8) -> u8 {
+    match b {
+        b'\n' => b'|',
+        _ => b,
+    }
+}
+
+// The first n bytes of a slice, a bar for each newline.
+fn print_bars(bytes: &[u8], n: usize) {
+    let mut i: usize = 0;
+    while i < bytes.len() {
+        if i < n {
+            print(&[bar_for_newline(bytes[i])]);
+        }
+        i += 1;
+    }
+}
+
+fn print_reading(answer: Reading, lines: &[u8]) {
+    match answer {
+        Reading::Read {
+            pages,
+            lost,
+            orphans,
+            bytes,
+        } => {
+            print(b" pages ");
+            print_number(pages as u64);
+            print(b" lost ");
+            print_number(lost as u64);
+            print(b" orphans ");
+            print_number(orphans as u64);
+            print(b" ");
+            print_bars(lines, bytes);
+        }
+        Reading::Declined(_) => {
+            print(b" refused ");
+            print_number(reader::number(answer) as u64);
+            print(b" place ");
+            print_number(reader::place(answer) as u64);
+        }
+    }
+}
+
+// The word at index i of a line, whose words start at its third byte; idle behind the last.
+fn word_or_idle(line: &[u8], i: usize) -> u32 {
+    if line.len() / 9 < i {
+        return Codeword::IDLE.word();
+    }
+    let at = 9 * i + 2;
+    if line.len() < at + 8 {
+        return Codeword::IDLE.word();
+    }
+    number_in(line, at, at + 8)
+}
+
+// Fills a slice with the words of a line, and idle behind them.
+fn words_in(line: &[u8], words: &mut [u32]) {
+    let n = words.len();
+    let mut i: usize = 0;
+    while i < n {
+        words[i] = word_or_idle(line, i);
+        i += 1;
+    }
+}
+
+// `R 7CD215D8 000026EC C2199DEA`: what a batch of these words, idle behind them, reads as.
+fn read(line: &[u8]) {
+    let mut words = [0u32; 17];
+    words_in(line, &mut words);
+    let mut out = io::buffer();
+    let answer = reader::read_words(&words, &mut out);
+    print_reading(answer, &out);
+}
+
+// `L AAAAAAAA AAAAAAAA|..`: what a listing reads as.
+fn list(line: &[u8]) {
+    if line.len() < 2 {
+        return;
+    }
+    let mut bytes = io::buffer();
+    let n = newlines(&line[2..], &mut bytes);
+    read_front(&bytes, n);
+}
+
+fn read_front(bytes: &[u8], n: usize) {
+    if bytes.len() < n {
+        return;
+    }
+    let mut out = io::buffer();
+    let answer = reader::read_listing(&bytes[..n], &mut out);
+    print_reading(answer, &out);
+}
+
 // An example, and what the library answers.
 fn run(line: &[u8]) {
     print(line);
@@ -247,6 +343,8 @@ fn run(line: &[u8]) {
         b'H' => heard(line),
         b'J' => job(line),
         b'S' => send(line),
+        b'R' => read(line),
+        b'L' => list(line),
         _ => {}
     }
     print(b"\n");
