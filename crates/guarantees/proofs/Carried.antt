@@ -28,7 +28,7 @@ use Rattle.transmission.specs.Sending.{Sending, sendingsOf, placementOf, AllAll
 use Rattle.transmission.specs.Transmission.{Codewords, codewordsOf, addressOf, messageOf, wordAt, transmissionOf}
 use Rattle.transmission.specs.Transmitted.{slotIndex, slotWord, isAddress, Transmitted}
 use Rattle.transmission.specs.declared.Report.the-variants.{Sent}
-use Rattle.transmission.proofs.Sendings.{sending-at, words-at, pages-are, sendable, sendings-placed, sendings-count, accepted-sendings}
+use Rattle.transmission.proofs.Sendings.{sending-at, words-at, pages-are, sendings-placed, sendings-count, accepted-sendings}
 use Rattle.transmission.proofs.TransmissionLaws.{transmission-length, transmission-at}
 use Rattle.transmission.proofs.Transmitted.{transmitted}
 use Rattle.sender.specs.declared.Answer.the-variants.{Word, Done}
@@ -95,7 +95,7 @@ module _ (s : List ℕ) (n : ℕ) (ok : jobOf s ≡ Accepted n) where
     words-size = transmission-length codewords job ∙ sym (says .words-are)
 
     slots-size : length (slots job) ≡ n
-    slots-size = slots-length job (sendable allowed .framed) ∙ page-count
+    slots-size = slots-length job ∙ page-count
 
     word-at : (k : ℕ) → k < m → getD w k 0 ≡ wordAt codewords job k
     word-at k l =
@@ -107,7 +107,7 @@ module _ (s : List ℕ) (n : ℕ) (ok : jobOf s ≡ Accepted n) where
     slot-at i l =
         ap (λ (x : List ℕ). getD x i 0) (call .slots)
         ∙ List·getD-append (slots job) (drop (length (slots job)) t₀) 0 i (omega (arith, slots-size))
-        ∙ slots-at job (sendable allowed .framed) i (omega (arith, page-count))
+        ∙ slots-at job i (omega (arith, page-count))
 
     word-in : (p : ℕ) → p < 16 * b → wordIn w p ≡ slotWord codewords job p
     word-in p l = word-at (slotIndex p) (omega (arith, says .words-are, says .batches-are))

@@ -13,11 +13,11 @@ use lib.Dec.{ltb, eqb}
 use borrow.Author.Tests.{eqb-true, eq-eqb, ne-eqb, lt-ltb, le-ltb}
 use Rattle.base.specs.Search.{least, sum}
 use Rattle.base.proofs.ListLaws.{tab-length, tab-at, tab-list}
-use Rattle.base.proofs.Bools.{true-false, and-true}
+use Rattle.base.proofs.Bools.{true-false, and-true, and-both}
 use Rattle.base.proofs.SearchLaws.{Least, least-is, least-only, sum-cong, le-or-lt}
 use Rattle.placement.specs.Placement.{Job, jobOf, Framed, Sendable, slotBound, State, Content, address, message, isMessage, stateAt, contentAt, allOut, endsWith, batches, slotOf, slots}
 use Rattle.placement.specs.Promise.{before, Holds, nothing, itsAddress, itsMessage, Placed, Limits}
-use Rattle.placement.proofs.Turn.{Turn, runs, starts, rests, ready-true, and-both}
+use Rattle.placement.proofs.Turn.{Turn, runs, starts, rests, ready-true}
 use Rattle.placement.proofs.Bounds.{none-sent, all-sent, total-start, good, gone, total, count, no-message, none-unsent}
 use Rattle.placement.proofs.Contents.{slot, began, marks, keeps-on, comes, running, follows, Runs, runs-at}
 
@@ -43,6 +43,15 @@ no-message-in : {job : Job} {s : ℕ} {st st′ : State} {c : Content} → st .l
 no-message-in e (runs l z) = absurd (omega arith)
 no-message-in e (starts k z b r _) = refl
 no-message-in e (rests z none) = refl
+
+-- the reported slots: how many, and each
+pub slots-length : (job : Job) → length (slots job) ≡ job .pages
+unfolding slots
+slots-length job = tab-length (slotOf job) (job .pages)
+
+pub slots-at : (job : Job) (i : ℕ) → i < job .pages → getD (slots job) i 0 ≡ slotOf job i
+unfolding slots
+slots-at job i l = tab-at (slotOf job) (job .pages) i 0 l
 
 module _ (job : Job) (framed : Framed job) where
   -- the bound of demand 3 is enough
@@ -207,15 +216,7 @@ module _ (job : Job) (framed : Framed job) where
       (λ h. omega arith)
       (le-or-lt j (job .words i))
 
-  -- the reported slots: how many, each, and all from the marks after the last batch
-  pub slots-length : length (slots job) ≡ job .pages
-  unfolding slots
-  slots-length = tab-length (slotOf job) (job .pages)
-
-  pub slots-at : (i : ℕ) → i < job .pages → getD (slots job) i 0 ≡ slotOf job i
-  unfolding slots
-  slots-at i l = tab-at (slotOf job) (job .pages) i 0 l
-
+  -- the reported slots from the marks after the last batch
   pub slots-marks : slots job ≡ map pred (stateAt job (16 * batches job) .sent)
   unfolding slots slotOf
   slots-marks =

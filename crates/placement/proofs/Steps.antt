@@ -12,10 +12,10 @@ use lib.ListN.{length, getD, set}
 use lib.Dec.{eqb}
 use borrow.Author.Tests.{eqb-true, eq-eqb}
 use Rattle.base.specs.Search.{least}
-use Rattle.base.proofs.Bools.{true-false, and-true}
+use Rattle.base.proofs.Bools.{true-false, and-true, and-both}
 use Rattle.base.proofs.SearchLaws.{least-only, sum-ones, le-or-lt}
 use Rattle.placement.specs.Placement.{Job, Framed, State, Content, idle, address, message, isMessage, fresh, rested, started, ran, mayStart, ready, out, next, stateAt, contentAt, allOut, endsWith, batches}
-use Rattle.placement.proofs.Turn.{Turn, runs, starts, rests, turn, ready-true, and-both}
+use Rattle.placement.proofs.Turn.{Turn, runs, starts, rests, turn, ready-true}
 use Rattle.placement.proofs.Bounds.{none-sent, all-sent, good, total-le, total-start, total-without, count}
 use Rattle.placement.proofs.Placed.{all-out, out-all, ended, some-batch, batches-is}
 

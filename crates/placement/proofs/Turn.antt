@@ -1,19 +1,15 @@
 -- One slot of the placement as three cases: a message runs, a page starts, or the slot is idle. Every law of the
 -- placement is proved by these cases, so a change of the rule is met in `turn` and in the laws that name a case. Assumes nothing.
 use mathlib.Core.Path.{_≡_, refl}
-use mathlib.Core.Bool.{Bool, true, false, cond, _&&_}
+use mathlib.Core.Bool.{Bool, true, false, cond}
 use Prim.Native.Nat.{ℕ, zero, suc, _-_, _<_}
 use lib.ListN.{getD}
 use lib.Dec.{ltb}
 use borrow.Author.Tests.{eqb-true, eq-eqb, ltb-true, ltb-false}
 use native.Mathlib.Omega.{arith}
-use Rattle.base.proofs.Bools.{true-false, and-true}
+use Rattle.base.proofs.Bools.{true-false, and-true, and-both}
 use Rattle.base.proofs.SearchLaws.{Least, least-is}
 use Rattle.placement.specs.Placement.{Job, State, Content, idle, address, message, frameOf, mayStart, ready, first, rested, started, ran, out, outOf, after, next}
-
--- two tests that both pass
-pub and-both : {a b : Bool} → a ≡ true → b ≡ true → a && b ≡ true
-and-both p q = rw (p, q)
 
 -- page i may start in slot s: `ready` as facts
 abbrev pub May : Job → ℕ → State → ℕ → Type 0

@@ -24,6 +24,7 @@ use Rattle.job.specs.declared.Pages.{Pages}
 use Rattle.job.proofs.Accepted.{accepted-job}
 use Rattle.placement.specs.Placement as placement
 use Rattle.placement.specs.Placement.{Sendable, batches, slotOf, slots}
+use Rattle.placement.proofs.Placed.{slots-length, slots-at}
 use Rattle.transmission.specs.Sending.{Sending, sendingsOf, sendingAt, framesOf, countsOf, placementOf}
 use Rattle.transmission.specs.Transmission.{codewordsOf, transmissionOf}
 use Rattle.transmission.specs.Report.{sentInto}
@@ -62,14 +63,6 @@ front f g xs n e h p =
     ∙ tab-same f (λ i. g (sendingAt xs i)) n p
     ∙ sym (sendings-tab g xs ∙ ap (tab (λ i. g (sendingAt xs i))) e)
 
-slots-length : (job : placement.Job) → length (slots job) ≡ job .pages
-unfolding slots
-slots-length job = tab-length (slotOf job) (job .pages)
-
-slots-at : (job : placement.Job) (i : ℕ) → i < job .pages → getD (slots job) i 0 ≡ slotOf job i
-unfolding slots
-slots-at job i h = tab-at (slotOf job) (job .pages) i 0 h
-
 -- ---- numbers of characters
 
 longest-most : (kind : ℕ) → longestOf kind ≤ 240
@@ -87,6 +80,13 @@ zeros-behind [] (suc k) zero h = refl
 zeros-behind [] (suc k) (suc i) h = zeros-behind [] k i zero-le
 zeros-behind (x ∷ xs) k zero h = absurd (not-suc-le-zero h)
 zeros-behind (x ∷ xs) k (suc i) h = zeros-behind xs k i (le-of-suc-le-suc h)
+
+-- what reading an accepted job says of how many groups page i takes
+pub groups-are : (s : List ℕ) (n : ℕ) → jobOf s ≡ Accepted n → {pages : Pages} → pages ≡ readingOf s → (i : ℕ) → i < n
+    → groupsOf (codingOf (getD (pages .kinds) i 0)) (getD (pages .counts) i 0) ≡ length (sendingAt (sendingsOf s) i .groups)
+groups-are s n ok e i h =
+    let p = accepted-job s n ok .page i h in
+    rw (e, p .kept-kind, p .kept-count, sending-at s i) (sym (groups-length (codingOf (pageAt s i .kind)) (pageAt s i .text)))
 
 module _ (s : List ℕ) (n : ℕ) (ok : jobOf s ≡ Accepted n) (pages : Pages) (e : pages ≡ readingOf s) where
   counts-kept : readingOf s .counts ≡ padded 48 (map (λ (p : Page). length (p .text)) (pagesOf s))
@@ -107,15 +107,10 @@ module _ (s : List ℕ) (n : ℕ) (ok : jobOf s ≡ Accepted n) (pages : Pages) 
       front (λ i. getD (pages .identities) i 0 % 8) (λ (x : Sending). x .identity % 8) (sendingsOf s) n (sendings-count s n ok) (accepted-job s n ok .most)
       (λ i h. rw (e, accepted-job s n ok .page i h .kept-identity, sending-at s i))
 
-  group-count : (i : ℕ) → i < n → groupsOf (codingOf (getD (pages .kinds) i 0)) (getD (pages .counts) i 0) ≡ length (sendingAt (sendingsOf s) i .groups)
-  group-count i h =
-      let p = accepted-job s n ok .page i h in
-      rw (e, p .kept-kind, p .kept-count, sending-at s i) (sym (groups-length (codingOf (pageAt s i .kind)) (pageAt s i .text)))
-
   pub counts-are : take n (tab (λ i. groupsOf (codingOf (getD (pages .kinds) i 0)) (getD (pages .counts) i 0)) 48) ≡ countsOf (sendingsOf s)
   counts-are =
       front (λ i. groupsOf (codingOf (getD (pages .kinds) i 0)) (getD (pages .counts) i 0)) (λ (x : Sending). length (x .groups)) (sendingsOf s) n (sendings-count s n ok)
-      (accepted-job s n ok .most) group-count
+      (accepted-job s n ok .most) (groups-are s n ok e)
 
   -- the two arrays, of whose front the placement is made
   module _ {frames groups : List ℕ} (f : frames ≡ tab (λ i. getD (pages .identities) i 0 % 8) 48)
@@ -147,7 +142,7 @@ module _ (s : List ℕ) (n : ℕ) (ok : jobOf s ≡ Accepted n) (pages : Pages) 
         record {
           accepted = ok;
           total = rw (frames-front, groups-front) at p;
-          counted = λ i h. rw g (tab-at (λ k. groupsOf (codingOf (getD (pages .kinds) k 0)) (getD (pages .counts) k 0)) 48 i 0 (omega arith) ∙ group-count i (omega arith));
+          counted = λ i h. rw g (tab-at (λ k. groupsOf (codingOf (getD (pages .kinds) k 0)) (getD (pages .counts) k 0)) 48 i 0 (omega arith) ∙ groups-are s n ok e i (omega arith));
           placed = λ i h. rw all (List·getD-append new _ 0 i (omega arith) ∙ slots-at (placementOf xs) i (omega (arith, pages-are xs)));
           front = rw all (take-at new _ n size);
           long = omega (arith, ap length all, over-length (replicate 48 0) new (omega arith), length-replicate {A = ℕ} 48 0);

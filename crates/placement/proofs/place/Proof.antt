@@ -33,7 +33,7 @@ returns c =
     let job = jobOf (s .args .frames .now) (s .args .words .now) in
     let placed = c .before .before .place-exact in (
       placed .ensures .0,
-      ap₂ (λ (new : List ℕ) (n : ℕ). new ++ drop n (s .args .out .now)) (placed .ensures .1) (sym (slots-length job (s .pre .0 .framed))),
+      ap₂ (λ (new : List ℕ) (n : ℕ). new ++ drop n (s .args .out .now)) (placed .ensures .1) (sym (slots-length job)),
     )
 
 pub place-spec : {M : Type 1} → statement M
