@@ -8,15 +8,14 @@ use lib.ListN.{length, getD}
 use lib.Dec.{ltb}
 use Rattle.base.specs.Lists.{tab, padded}
 use Rattle.base.proofs.ListLaws.{tab-at}
-use Rattle.codeword.specs.Code.{codeword, messageBits}
 use Rattle.placement.specs.Placement.{Job, Framed, messages, Content}
 use Rattle.placement.specs.Promise.{Holds, nothing, itsAddress, itsMessage}
 use Rattle.placement.proofs.Placed.{placed}
 use Rattle.transmission.specs.Sending.{Sending, noSending, sendingAt, framesOf, countsOf, placementOf, AllAllowed}
-use Rattle.transmission.specs.Transmission.{Codewords, codewordsOf, codewordIn, preamble, batchWord, wordAt, wordCount}
+use Rattle.transmission.specs.Transmission.{Codewords, addressOf, messageOf, codewordsOf, codewordIn, preamble, batchWord, wordAt, wordCount}
 use Rattle.transmission.proofs.Sendings.{pages-are, words-at, sendable}
 use Rattle.sender.specs.Step.{jobIn, codewordsIn}
-use Rattle.sender.specs.Start.{addressOf, wordsOf, startAt, pagesFrom}
+use Rattle.sender.specs.Start.{wordsOf, startAt, pagesFrom}
 use Rattle.sender.proofs.WordLaws.{map-at, pad-at, start-le, words-count, word-at}
 use Rattle.sender.proofs.Held.{Fit}
 
@@ -57,7 +56,7 @@ module _ (xs : List Sending) (a : AllAllowed xs) where
       pad-at 4032 (wordsOf xs) (getD (pagesFrom xs .starts) i 0 + j)
       ∙ ap (λ (k : ℕ). getD (wordsOf xs) (k + j) 0) (starts-at i h)
       ∙ word-at xs i j h l
-      ∙ map-at (λ (g : ℕ). codeword (messageBits g)) (sendingAt xs i .groups) j 0 0 l
+      ∙ tab-at (messageOf (sendingAt xs i)) (length (sendingAt xs i .groups)) j 0 l
 
   same-code : {s : ℕ} {x : Content} → Holds (placementOf xs) s x → codewordIn held x ≡ codewordIn (codewordsOf xs) x
   unfolding codewordIn

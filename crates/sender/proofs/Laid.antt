@@ -4,23 +4,18 @@ use mathlib.Core.Path.{_≡_, refl, sym, ap, _∙_}
 use mathlib.Core.List.{List, _++_, map}
 use native.Mathlib.Numerals.{add-one}
 use native.Mathlib.Omega.{arith}
-use lib.ListN.{length, set, getD, take, drop, replicate, length-map}
+use lib.ListN.{length, set, take, drop, replicate, length-map}
 use lib.Seq.{take-length}
 use Rattle.base.specs.Lists.{over, tab, padded}
-use Rattle.base.proofs.ListLaws.{filled, filled-turn, filled-over, over-zeros, over-behind, over-length, tab-length, tab-at, map-tab}
+use Rattle.base.proofs.ListLaws.{filled, filled-turn, filled-over, over-zeros, over-behind, over-length, tab-length, tab-at, tab-same}
 use Rattle.codeword.specs.Code.{codeword, messageBits}
 use Rattle.text.specs.Coding.{groupOf, groupsOf, groupsIn}
-use Rattle.text.proofs.GroupLaws.{groups-length}
 use Rattle.job.specs.Line.{codingOf}
-use Rattle.job.specs.Pages.{pageAt}
-use Rattle.job.specs.Job.{jobOf, readingOf}
-use Rattle.job.specs.declared.JobAnswer.the-variants.{Accepted}
-use Rattle.job.specs.declared.Pages.{Pages}
-use Rattle.job.proofs.Accepted.{accepted-job}
-use Rattle.transmission.specs.Sending.{Sending, noSending, sendingFrom, sendingsOf, sendingAt, framesOf, countsOf, AllAllowed}
-use Rattle.transmission.proofs.Sendings.{sending-at, frame-at, words-at, pages-are, sendable}
+use Rattle.transmission.specs.Sending.{Sending, noSending, sendingFrom, sendingAt, framesOf, countsOf, AllAllowed}
+use Rattle.transmission.specs.Transmission.{addressOf, messageOf}
+use Rattle.transmission.proofs.Sendings.{frame-at, words-at, pages-are, sendable}
 use Rattle.sender.specs.declared.PageTable.{PageTable}
-use Rattle.sender.specs.Start.{addressOf, messageOf, wordsOf, startAt, pagesFrom}
+use Rattle.sender.specs.Start.{messagesOf, wordsOf, startAt, pagesFrom}
 use Rattle.sender.proofs.WordLaws.{map-at, words-more, start-more, start-most, start-le, words-count}
 
 abbrev zeros : List ℕ
@@ -40,20 +35,16 @@ pub laid-none : (xs : List Sending) (old : List ℕ) → Laid xs old 0 0 zeros z
 unfolding startAt wordsOf
 laid-none xs old = record { at-is = refl; addresses-are = refl; starts-are = refl; lengths-are = refl; frames-are = refl; words-are = refl }
 
--- what reading an accepted job says of how many groups page i takes
-pub groups-are : (s : List ℕ) (n : ℕ) → jobOf s ≡ Accepted n → {pages : Pages} → pages ≡ readingOf s → (i : ℕ) → i < n
-    → groupsOf (codingOf (getD (pages .kinds) i 0)) (getD (pages .counts) i 0) ≡ length (sendingAt (sendingsOf s) i .groups)
-groups-are s n ok e i h =
-    let p = accepted-job s n ok .page i h in
-    rw (e, p .kept-kind, p .kept-count, sending-at s i) (sym (groups-length (codingOf (pageAt s i .kind)) (pageAt s i .text)))
-
 -- the codewords of a text's groups are the message of its sending
 pub message-is : (identity kind : ℕ) (bytes : List ℕ) (n : ℕ) → n ≡ length (sendingFrom identity kind bytes .groups)
-    → tab (λ g. codeword (messageBits (groupOf (codingOf kind) bytes g))) n ≡ messageOf (sendingFrom identity kind bytes)
+    → tab (λ g. codeword (messageBits (groupOf (codingOf kind) bytes g))) n ≡ messagesOf (sendingFrom identity kind bytes)
 unfolding groupsIn
 message-is identity kind bytes n e =
-    ap (tab (λ g. codeword (messageBits (groupOf (codingOf kind) bytes g)))) (e ∙ tab-length (groupOf (codingOf kind) bytes) (groupsOf (codingOf kind) (length bytes)))
-    ∙ sym (map-tab (λ (g : ℕ). codeword (messageBits g)) (groupOf (codingOf kind) bytes) (groupsOf (codingOf kind) (length bytes)))
+    let coding = codingOf kind in
+    let count = groupsOf coding (length bytes) in
+    tab-same (λ g. codeword (messageBits (groupOf coding bytes g))) (messageOf (sendingFrom identity kind bytes)) n
+    (λ g h. ap (λ (x : ℕ). codeword (messageBits x)) (sym (tab-at (groupOf coding bytes) count g 0 (omega (arith, tab-length (groupOf coding bytes) count)))))
+    ∙ ap (tab (messageOf (sendingFrom identity kind bytes))) e
 
 module _ (xs : List Sending) (a : AllAllowed xs) (old : List ℕ) (room : length old ≡ 4032) where
   short : length (wordsOf xs) ≤ 4032
@@ -74,12 +65,12 @@ module _ (xs : List Sending) (a : AllAllowed xs) (old : List ℕ) (room : length
 
     -- page i is passed
     pub laid-more : i < length xs → {x : Sending} → x ≡ sendingAt xs i → {v g f : ℕ} {part : List ℕ}
-        → v ≡ addressOf x → g ≡ length (sendingAt xs i .groups) → f ≡ x .identity % 8 → part ≡ over (take (length words - at) (drop at words)) (messageOf x)
+        → v ≡ addressOf x → g ≡ length (sendingAt xs i .groups) → f ≡ x .identity % 8 → part ≡ over (take (length words - at) (drop at words)) (messagesOf x)
         → Laid xs old (i + 1) (at + g) (set addresses i v) (set starts i at) (set lengths i g) (set frames i f) (take at words ++ (part ++ drop (length words - at) (drop at words)))
     unfolding startAt
     laid-more h {x} e p q r w =
         let low : i < length zeros = omega (arith, a .most) in
-        let more : wordsOf (take i xs) ++ messageOf (sendingAt xs i) ≡ wordsOf (take (i + 1) xs) = rw (add-one i) (sym (words-more xs i h)) in
+        let more : wordsOf (take i xs) ++ messagesOf (sendingAt xs i) ≡ wordsOf (take (i + 1) xs) = rw (add-one i) (sym (words-more xs i h)) in
         record {
           at-is = ap (λ (k : ℕ). at + k) q ∙ rw (so .at-is, add-one i) (sym (start-more xs i h));
           addresses-are = filled-turn zeros (map addressOf xs) i (so .addresses-are) low (omega (arith, length-map xs addressOf)) (p ∙ ap addressOf e ∙ sym (map-at addressOf xs i 0 noSending h));
@@ -87,8 +78,8 @@ module _ (xs : List Sending) (a : AllAllowed xs) (old : List ℕ) (room : length
           lengths-are = filled-turn zeros (countsOf xs) i (so .lengths-are) low (omega (arith, length-map xs (λ (y : Sending). length (y .groups)))) (q ∙ sym (words-at xs i));
           frames-are = filled-turn zeros (framesOf xs) i (so .frames-are) low (omega (arith, pages-are xs)) (r ∙ ap (λ (y : Sending). y .identity % 8) e ∙ sym (frame-at xs i));
           words-are =
-              over-behind old (wordsOf (take i xs)) (messageOf x) at (so .words-are) (sym (so .at-is)) (omega (arith, laid-at, laid-room)) w
-              ∙ ap (over old) (ap (λ (y : Sending). wordsOf (take i xs) ++ messageOf y) e ∙ more);
+              over-behind old (wordsOf (take i xs)) (messagesOf x) at (so .words-are) (sym (so .at-is)) (omega (arith, laid-at, laid-room)) w
+              ∙ ap (over old) (ap (λ (y : Sending). wordsOf (take i xs) ++ messagesOf y) e ∙ more);
         }
 
   -- all pages are passed

@@ -3,29 +3,25 @@ use Prim.Native.Nat.{ℕ}
 use mathlib.Core.List.{List, [], _∷_, _++_, map}
 use lib.ListN.{length, take, replicate}
 use Rattle.base.specs.Lists.{tab, padded}
-use Rattle.codeword.specs.Code.{codeword, addressBits, messageBits}
 use Rattle.job.specs.Job.{jobOf}
 use Rattle.job.specs.declared.JobAnswer.{JobAnswer}
 use Rattle.job.specs.declared.JobAnswer.the-variants as job-answer
 use Rattle.transmission.specs.Sending.{Sending, sendingsOf, framesOf, countsOf}
+use Rattle.transmission.specs.Transmission.{addressOf, messageOf}
 use Rattle.sender.specs.declared.Cursor.{Cursor}
 use Rattle.sender.specs.declared.PageTable.{PageTable}
 use Rattle.sender.specs.declared.Sender.{Sender}
 use Rattle.sender.specs.declared.Started.{Started}
 use Rattle.sender.specs.Step.{stateFrom}
 
--- a sending's address codeword
-abbrev pub addressOf : Sending → ℕ
-addressOf x = codeword (addressBits (x .identity) (x .function))
-
--- and its message codewords
-abbrev pub messageOf : Sending → List ℕ
-messageOf x = map (λ (g : ℕ). codeword (messageBits g)) (x .groups)
+-- the message codewords of a sending, one from each group
+abbrev pub messagesOf : Sending → List ℕ
+messagesOf x = tab (messageOf x) (length (x .groups))
 
 -- the message codewords of all sendings, page after page
 unfoldable pub wordsOf : List Sending → List ℕ
 wordsOf [] = []
-wordsOf (x ∷ xs) = messageOf x ++ wordsOf xs
+wordsOf (x ∷ xs) = messagesOf x ++ wordsOf xs
 
 -- where those of page i start: behind those of the pages before it
 unfoldable pub startAt : List Sending → ℕ → ℕ

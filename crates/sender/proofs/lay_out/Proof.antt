@@ -12,9 +12,9 @@ use Rattle.text.specs.Coding.{groupOf, groupsOf}
 use Rattle.text.specs.declared.Coding.{Coding}
 use Rattle.transmission.specs.Sending.{Sending, sendingsOf}
 use Rattle.transmission.proofs.Sendings.{sendings-count, accepted-sendings}
-use Rattle.transmission.proofs.Prepared.{few-characters}
+use Rattle.transmission.proofs.Prepared.{few-characters, groups-are}
 use Rattle.transmission.proofs.Planned.{page-sending}
-use Rattle.sender.proofs.Laid.{Laid, laid-none, groups-are, message-is, laid-at, laid-room, laid-fits, laid-more, laid-pages, laid-words}
+use Rattle.sender.proofs.Laid.{Laid, laid-none, message-is, laid-at, laid-room, laid-fits, laid-more, laid-pages, laid-words}
 use borrow.Author.Needs.{needs}
 use Rattle.sender.proofs.lay_out.Statement.{statement}
 use Rattle.sender.proofs.lay_out.Tie as tie
