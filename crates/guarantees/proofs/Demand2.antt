@@ -3,12 +3,12 @@ use mathlib.Core.Path.{_≡_, refl, sym, ap, ap₂, _∙_}
 use mathlib.Core.Bool.{false, cond}
 use mathlib.Core.List.{List, [], _∷_, _++_, map}
 use mathlib.Core.Logic.{⊎-elim}
-use Prim.Native.Nat.{ℕ, suc, _*_, _/_, _%_, _≤_, _<_, zero-le, suc-le-suc}
+use Prim.Native.Nat.{ℕ, suc, _*_, _/_, _≤_, _<_, zero-le, suc-le-suc}
 use native.Mathlib.Omega.{arith}
 use lib.ListN.{length, getD, drop, length-map, List·getD-eq-default}
 use lib.Seq.{take-append-seam}
 use lib.Dec.{ltb}
-use borrow.Author.Tests.{lt-ltb, le-ltb, eq-eqb, ne-eqb}
+use borrow.Author.Tests.{lt-ltb, le-ltb}
 use Rattle.base.proofs.SearchLaws.{le-or-lt}
 use Rattle.job.specs.Job.{jobOf}
 use Rattle.job.specs.declared.JobAnswer.the-variants.{Accepted}
@@ -28,7 +28,7 @@ use Rattle.reader.specs.Answers.{unsynced, firstUnsynced, printedInto, readBatc
 use Rattle.reader.specs.declared.Fault.the-variants as fault
 use Rattle.reader.specs.declared.Reading.{Reading}
 use Rattle.reader.specs.declared.Reading.the-variants as reading
-use Rattle.reader.proofs.AnswerLaws.{none-unsynced}
+use Rattle.reader.proofs.AnswerLaws.{none-unsynced, batches-read, words-read}
 use Rattle.guarantees.specs.Order.{InOrder}
 use Rattle.guarantees.specs.Transport.{Received, hearingOf, asSent, HeardAsSent}
 use Rattle.guarantees.specs.Demand2.{pageLines, inSlotOrder, linesInOrder, GivesBack, SamePages, Demand2, wordsLeft, SentThenRead}
@@ -40,20 +40,13 @@ use Rattle.guarantees.proofs.Reported.{reported}
 -- ---- whole batches that all begin with sync
 
 module _ (words : List ℕ) (b room : ℕ) (e : length words ≡ 17 * b) (synced : (q : ℕ) → q < b → unsynced words q ≡ false) where
-  batches-read : readBatches words room ≡ printedInto (heardIn words) room
-  unfolding readBatches
-  batches-read =
+  batches-heard : readBatches words room ≡ printedInto (heardIn words) room
+  batches-heard =
       let all : length words / 17 ≡ firstUnsynced words = none-unsynced words (length words / 17) refl (λ q l. synced q (omega arith)) in
-      rw (le-ltb (firstUnsynced words) (length words / 17) (omega arith))
+      sym (batches-read words room (omega arith))
 
-  words-read : 1 ≤ b → b ≤ 300 → readWords words room ≡ readBatches words room
-  unfolding readWords
-  words-read some few =
-      rw (
-        ne-eqb (length words) 0 (λ z. omega arith),
-        eq-eqb (length words % 17) 0 (omega arith),
-        le-ltb 300 (length words / 17) (omega arith),
-      )
+  words-heard : 1 ≤ b → b ≤ 300 → readWords words room ≡ readBatches words room
+  words-heard some few = sym (words-read words room (λ z. omega arith) (omega arith) (omega arith))
 
 -- ---- an answer by its room
 
@@ -107,13 +100,13 @@ module _ (s : List ℕ) (n : ℕ) (ok : jobOf s ≡ Accepted n) where
     batches-given : (room : ℕ) → readBatches (drop 18 words) room ≡ given s n room
     unfolding asSent
     batches-given room =
-        batches-read (drop 18 words) (batches (placementOf (sendingsOf s))) room (transported .whole) (transported .synced)
+        batches-heard (drop 18 words) (batches (placementOf (sendingsOf s))) room (transported .whole) (transported .synced)
         ∙ ap (λ (h : Heard). printedInto h room) (transported .heard)
         ∙ rw (all-lines, all-pages)
 
     words-given : (room : ℕ) → readWords (drop 18 words) room ≡ given s n room
     words-given room =
-        words-read (drop 18 words) (batches (placementOf (sendingsOf s))) room (transported .whole) (transported .synced)
+        words-heard (drop 18 words) (batches (placementOf (sendingsOf s))) room (transported .whole) (transported .synced)
         (batches-least allowed) (sendings-limits allowed .listed)
         ∙ batches-given room
 
