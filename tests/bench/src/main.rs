@@ -142,11 +142,14 @@ impl Bench {
         );
     }
 
-    /// A start and every step of a job, and the start alone.
-    #[cfg(feature = "steps")]
+    /// A start and every step of a job, and the start alone. The library's state is lent; the independent implementation makes its own.
     fn steps_rows(&mut self, name: &str, job: &[u8]) {
-        use card::steps::{Sender, Step};
-        row(self.effort, &format!("start {name}"), 1, &mut || _ = black_box(Sender::start(black_box(job))), &mut || {
+        use card::steps::{start, step, Sender};
+        let mut state = Sender::boxed();
+        assert_eq!(start(job, &mut state).number, 0);
+        assert!(send::Sender::start(job).expect("good job").all(|word| step(&mut state).word == word));
+        assert_eq!(step(&mut state).done, 1);
+        row(self.effort, &format!("start {name}"), 1, &mut || _ = black_box(start(black_box(job), &mut state)), &mut || {
             _ = black_box(send::Sender::start(black_box(job)))
         });
         row(
@@ -154,10 +157,8 @@ impl Bench {
             &format!("start and all steps of {name}"),
             1,
             &mut || {
-                let mut sender = Sender::start(black_box(job)).expect("good job");
-                while let Step::Word(word) = sender.step() {
-                    black_box(word);
-                }
+                black_box(start(black_box(job), &mut state));
+                while black_box(step(&mut state)).done == 0 {}
             },
             &mut || {
                 for word in send::Sender::start(black_box(job)).expect("good job") {
@@ -166,10 +167,6 @@ impl Bench {
             },
         );
     }
-
-    /// The header has no steps yet: see the file steps.rs of the crate card.
-    #[cfg(not(feature = "steps"))]
-    fn steps_rows(&mut self, _name: &str, _job: &[u8]) {}
 
     fn reading(&mut self) {
         let maximal = jobs::maximal(&mut self.random, &[3]);

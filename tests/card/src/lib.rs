@@ -4,7 +4,6 @@
 
 #[cfg(feature = "stand-in")]
 pub mod stand_in;
-#[cfg(feature = "steps")]
 pub mod steps;
 
 /// Whether the independent implementation stands in for the library.

@@ -1,8 +1,9 @@
 //! The library's C functions on top of the independent implementation, for builds without the archive. CARD_FAULT names a mistake
 //! to be made on purpose, so that one can see the comparison find it.
 
+use crate::steps::{self, Sender, Step};
 use crate::{Bytes, Reading, Report, Word};
-use independent::{codeword, reader, send, Refusal};
+use independent::{codeword, job, reader, send, state, Refusal};
 use std::slice::{from_raw_parts, from_raw_parts_mut};
 use std::sync::OnceLock;
 
@@ -26,6 +27,19 @@ pub const FAULTS: &[&str] = &[
     "22-before-lines",
     "301-batches",
     "37-preamble-lines",
+    "start-writes-when-declined",
+    "49-pages",
+    "frame-8",
+    "ending-at-4033",
+    "running-page-uncounted",
+    "running-word-beyond",
+    "slot-4801",
+    "page-looked-at-when-not-running",
+    "uncounted-frame-looked-at",
+    "flag-is-one",
+    "writes-when-11",
+    "writes-when-done",
+    "writes-a-message-word",
 ];
 
 fn is(fault: &str) -> bool {
@@ -169,5 +183,115 @@ fn reading(result: Result<reader::Reading, Refusal>, out: &mut [u8]) -> Reading 
             }
             Reading { place, bytes: 0, number, pages: 0, lost: 0, orphans: 0 }
         }
+    }
+}
+
+#[no_mangle]
+unsafe extern "C" fn card_start(job: *const u8, job_length: usize, state: *mut Sender) -> steps::Refusal {
+    let pages = match job::parse(&taken(from_raw_parts(job, job_length))) {
+        Ok(pages) => pages,
+        Err(Refusal { number, place }) => {
+            if is("start-writes-when-declined") {
+                (*state).cursor.message = 0;
+            }
+            return steps::Refusal { place, number };
+        }
+    };
+    let mut next = Sender::boxed();
+    next.cursor.preamble = 18;
+    next.pages.count = pages.len() as u32;
+    let mut words = Vec::new();
+    for (i, page) in pages.iter().enumerate() {
+        next.pages.addresses[i] = page.address();
+        next.pages.starts[i] = words.len() as u16;
+        next.pages.lengths[i] = page.message_words() as u16;
+        next.pages.frames[i] = page.frame() as u8;
+        page.push_message(&mut words);
+    }
+    next.words[..words.len()].copy_from_slice(&words);
+    *state = *next;
+    steps::Refusal { place: 0, number: 0 }
+}
+
+/// Whether number 11 is given.
+fn declines(state: &Sender) -> bool {
+    let Sender { cursor, pages, .. } = state;
+    let set = if is("flag-is-one") { cursor.running == 1 } else { cursor.running != 0 };
+    let looked_at = set || is("page-looked-at-when-not-running");
+    let mut frames = pages.frames;
+    if is("frame-8") {
+        frames.iter_mut().filter(|frame| **frame == 8).for_each(|frame| *frame = 7);
+    }
+    let mut reasons = state::reasons(&state::State {
+        slot: cursor.slot - u32::from(is("slot-4801") && cursor.slot == 4801),
+        running: looked_at.then_some((cursor.page, cursor.word)),
+        count: pages.count - u32::from(is("49-pages") && pages.count == 49),
+        starts: &pages.starts,
+        lengths: &pages.lengths,
+        frames: &frames,
+    });
+    let ends = |page: usize| u32::from(pages.starts[page]) + u32::from(pages.lengths[page]);
+    if is("ending-at-4033") && (0..48).map(ends).max() == Some(4033) {
+        reasons[2] = false;
+    }
+    if is("running-page-uncounted") {
+        reasons[3] = false;
+    }
+    if is("running-word-beyond") && cursor.word == pages.lengths.get(cursor.page as usize).map_or(0, |&length| length.into()) {
+        reasons[4] = false;
+    }
+    reasons.contains(&true) || is("uncounted-frame-looked-at") && frames.iter().any(|&frame| frame > 7)
+}
+
+#[no_mangle]
+unsafe extern "C" fn card_step(state: *mut Sender) -> Step {
+    let state = &mut *state;
+    if declines(state) {
+        if is("writes-when-11") {
+            state.cursor.slot = 0;
+        }
+        return Step::DECLINED;
+    }
+    let Sender { cursor, pages, sent, words } = state;
+    if cursor.preamble != 0 {
+        cursor.preamble -= 1;
+        return Step::word(codeword::PREAMBLE);
+    }
+    let counted = pages.count.min(48) as usize;
+    if cursor.slot % 16 == 0 && cursor.synced == 0 {
+        if cursor.running == 0 && cursor.message == 0 && sent[..counted].iter().all(|&flag| flag != 0) {
+            if is("writes-when-done") {
+                cursor.word = 0;
+            }
+            return Step::DONE;
+        }
+        cursor.synced = 1;
+        return Step::word(codeword::SYNC);
+    }
+    let frame = cursor.slot % 16 / 2;
+    cursor.synced = 0;
+    cursor.slot += 1;
+    if cursor.running != 0 {
+        let page = (cursor.page as usize).min(47);
+        let at = usize::from(pages.starts[page]) + cursor.word as usize;
+        cursor.word += 1;
+        cursor.running = u8::from(cursor.word < pages.lengths[page].into());
+        cursor.message = 1;
+        let word = words.get(at).copied().unwrap_or(0);
+        if is("writes-a-message-word") {
+            words.iter_mut().skip(at).take(1).for_each(|word| *word = 0);
+        }
+        return Step::word(word);
+    }
+    cursor.message = 0;
+    match (0..counted).find(|&page| sent[page] == 0 && u32::from(pages.frames[page]) == frame) {
+        Some(page) => {
+            sent[page] = 1;
+            cursor.page = page as u32;
+            cursor.word = 0;
+            cursor.running = u8::from(pages.lengths[page] != 0);
+            Step::word(pages.addresses[page])
+        }
+        None => Step::word(codeword::IDLE),
     }
 }

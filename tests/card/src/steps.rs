@@ -1,35 +1,111 @@
-//! The sender's start and step.
-//!
-//! TODO once include/spuggenor.h has `card_start` and `card_step`: the struct of the state (`#[repr(C)]`, with `Clone`, `Debug` and
-//! `PartialEq`) and the two declarations go here, `Sender` holds the state in a box, and `steps` becomes a default feature of this
-//! crate, `wide` and `bench`. What the comparison and the benchmarks call is below and needn't change.
+//! The sender's start and step. The state is the caller's, and any bytes are a state.
 
-#[cfg(not(feature = "stand-in"))]
-compile_error!("the header has no card_start and card_step yet");
-
-/// What one step answers.
+/// `cursor` of `struct card_sender`. A flag is set where it isn't 0.
+#[repr(C)]
 #[derive(Clone, Copy, Debug, PartialEq, Eq)]
-pub enum Step {
-    Word(u32),
-    Done,
-    /// A number and its place.
-    Declined(u32, usize),
+pub struct Cursor {
+    pub slot: u32,
+    pub page: u32,
+    pub word: u32,
+    pub preamble: u8,
+    pub synced: u8,
+    pub running: u8,
+    pub message: u8,
 }
 
-/// A sender's state, kept by the caller.
-#[derive(Clone, Debug, PartialEq)]
-pub struct Sender(independent::send::Sender);
+/// `pages` of `struct card_sender`.
+#[repr(C)]
+#[derive(Clone, Copy, Debug, PartialEq, Eq)]
+pub struct Pages {
+    pub count: u32,
+    pub addresses: [u32; crate::PAGES],
+    pub starts: [u16; crate::PAGES],
+    pub lengths: [u16; crate::PAGES],
+    pub frames: [u8; crate::PAGES],
+}
+
+/// `struct card_sender`.
+#[repr(C)]
+#[derive(Clone, Debug, PartialEq, Eq)]
+pub struct Sender {
+    pub cursor: Cursor,
+    pub pages: Pages,
+    pub sent: [u8; crate::PAGES],
+    pub words: [u32; MESSAGE_WORDS],
+}
+
+pub const MESSAGE_WORDS: usize = 4032;
+const BYTES: usize = 16_628;
+
+const _: () = {
+    use std::mem::{align_of, offset_of, size_of};
+    assert!(size_of::<Sender>() == BYTES && align_of::<Sender>() == 4);
+    assert!(offset_of!(Sender, cursor.preamble) == 12);
+    assert!(offset_of!(Sender, pages) == 16);
+    assert!(offset_of!(Sender, pages.starts) == 212);
+    assert!(offset_of!(Sender, pages.lengths) == 308);
+    assert!(offset_of!(Sender, pages.frames) == 404);
+    assert!(offset_of!(Sender, sent) == 452);
+    assert!(offset_of!(Sender, words) == 500);
+    // the fields fill the struct, so that there are no bytes between them
+    assert!(12 + 4 == 16 && 16 + 4 + 48 * (4 + 2 + 2 + 1) == 452 && 452 + 48 == 500 && 500 + 4 * MESSAGE_WORDS == BYTES);
+};
 
 impl Sender {
-    /// The state from which a job's steps start, or the number and place for which it is declined.
-    pub fn start(job: &[u8]) -> Result<Sender, (u32, usize)> {
-        match independent::send::Sender::start(job) {
-            Ok(sender) => Ok(Sender(sender)),
-            Err(refusal) => Err((refusal.number, refusal.place)),
-        }
+    /// A state of zeros.
+    pub fn boxed() -> Box<Sender> {
+        // SAFETY: a box of zeros from the allocator, for a struct of plain numbers; every byte pattern is one.
+        unsafe { Box::<Sender>::new_zeroed().assume_init() }
     }
 
-    pub fn step(&mut self) -> Step {
-        self.0.next().map_or(Step::Done, Step::Word)
+    pub fn bytes(&self) -> &[u8; BYTES] {
+        // SAFETY: the struct has this size and no bytes between its fields.
+        unsafe { &*(self as *const Sender).cast() }
     }
+
+    pub fn bytes_mut(&mut self) -> &mut [u8; BYTES] {
+        // SAFETY: as in bytes, and every byte pattern is a state.
+        unsafe { &mut *(self as *mut Sender).cast() }
+    }
+}
+
+/// `struct card_refusal`.
+#[repr(C)]
+#[derive(Clone, Copy, Debug, PartialEq, Eq)]
+pub struct Refusal {
+    pub place: usize,
+    pub number: u32,
+}
+
+/// `struct card_step_answer`.
+#[repr(C)]
+#[derive(Clone, Copy, Debug, PartialEq, Eq)]
+pub struct Step {
+    pub word: u32,
+    pub done: u32,
+    pub number: u32,
+}
+
+impl Step {
+    pub const DONE: Step = Step { word: 0, done: 1, number: 0 };
+    pub const DECLINED: Step = Step { word: 0, done: 0, number: 11 };
+
+    pub fn word(word: u32) -> Step {
+        Step { word, done: 0, number: 0 }
+    }
+}
+
+extern "C" {
+    fn card_start(job: *const u8, job_length: usize, state: *mut Sender) -> Refusal;
+    fn card_step(state: *mut Sender) -> Step;
+}
+
+pub fn start(job: &[u8], state: &mut Sender) -> Refusal {
+    // SAFETY: the pointer comes with the length of its slice, and the borrows keep job and state apart.
+    unsafe { card_start(job.as_ptr(), job.len(), state) }
+}
+
+pub fn step(state: &mut Sender) -> Step {
+    // SAFETY: the state is borrowed for the call.
+    unsafe { card_step(state) }
 }

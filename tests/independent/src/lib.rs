@@ -8,6 +8,7 @@ pub mod placement;
 pub mod program;
 pub mod reader;
 pub mod send;
+pub mod state;
 pub mod text;
 
 /// Why work is declined: a number of document 01's table, and the place that goes with it.

@@ -1,6 +1,8 @@
 //! One input to the library and to the independent implementation: both must give the same answer and leave the same buffers.
 
 use crate::lent::Lent;
+use crate::states::Kept;
+use card::steps::{self, Step};
 use generate::{buffer_length, Random};
 use independent::send::Accepted;
 use independent::{codeword, reader, send, Refusal};
@@ -14,12 +16,17 @@ pub type Outcome = Result<(), Difference>;
 /// Counts comparisons by what was called and the number it answered, and keeps the random state of the buffers.
 pub struct Comparison {
     pub counts: BTreeMap<(&'static str, u32), u64>,
+    /// How often a step was done, and how often number 11 had a single reason: comparisons that are counted above too.
+    pub among: BTreeMap<&'static str, u64>,
     pub random: Random,
+    /// The state before the step that is compared; kept here because it is large.
+    pub scratch: Option<Box<Kept>>,
 }
 
 impl Comparison {
     pub fn new(seed: u64) -> Self {
-        Comparison { counts: BTreeMap::new(), random: Random::new(seed ^ 0x5EED_0FB0_FFE5) }
+        let random = Random::new(seed ^ 0x5EED_0FB0_FFE5);
+        Comparison { counts: BTreeMap::new(), among: BTreeMap::new(), random, scratch: None }
     }
 
     pub fn count(&mut self, what: &'static str, number: u32) {
@@ -150,48 +157,33 @@ impl Comparison {
         Ok(expected.number)
     }
 
-    /// A job's steps, to the end and somewhat further: the words that sending writes, then done, with the state unchanged.
-    #[cfg(feature = "steps")]
+    /// A job's start and steps, to the end and somewhat further: the words that sending writes, then done.
     pub fn steps(&mut self, job: &[u8]) -> Outcome {
-        use card::steps::{Sender, Step};
         let input = || format!("job:\n{}", shown(job));
-        let (mut sender, words) = match (Sender::start(job), Accepted::new(job)) {
-            (Ok(sender), Ok(accepted)) => (sender, accepted.words()),
-            (Err(got), Err(Refusal { number, place })) if got == (number, place) => {
-                self.count("start", number);
-                return Ok(());
-            }
-            (got, expected) => {
-                let got = got.err().unwrap_or((0, 0));
-                let expected = expected.err().map_or((0, 0), |refusal| (refusal.number, refusal.place));
-                return differs("start", got, expected, &input());
-            }
+        let mut state = Kept::rubbish(&mut self.random);
+        let before = state.clone();
+        let got = steps::start(job, &mut state.sender);
+        let (expected, words) = match Accepted::new(job) {
+            Ok(accepted) => (steps::Refusal { place: 0, number: 0 }, accepted.words()),
+            Err(Refusal { number, place }) => (steps::Refusal { place, number }, vec![]),
         };
-        self.count("start", 0);
-        for (i, &word) in words.iter().enumerate() {
-            let got = sender.step();
-            if got != Step::Word(word) {
-                return differs(&format!("step {i}"), got, Step::Word(word), &input());
-            }
-            self.count("step", 0);
+        if got != expected {
+            return differs("start", got, expected, &input());
         }
-        for further in 0..3 {
-            let before = sender.clone();
-            let got = sender.step();
-            if got != Step::Done {
-                return differs(&format!("step {further} past the last"), got, Step::Done, &input());
-            }
-            if sender != before {
-                return Err(Difference(format!("step {further} past the last alters the state\n{}", input())));
-            }
-            self.count("step past the last", 0);
+        self.count("start", expected.number);
+        if expected.number != 0 {
+            return match before.difference(&state) {
+                Some(place) => Err(Difference(format!("a declined start writes {place}\n{}", input()))),
+                None => Ok(()),
+            };
         }
-        Ok(())
-    }
-
-    /// The header has no steps yet: see the file steps.rs of the crate card.
-    #[cfg(not(feature = "steps"))]
-    pub fn steps(&mut self, _job: &[u8]) -> Outcome {
+        let expected = words.iter().map(|&word| Step::word(word)).chain([Step::DONE; 3]);
+        for (i, expected) in expected.enumerate() {
+            let got = self.step(&mut state, "step", &mut || format!("step {i}\n{}", input()))?;
+            if got != expected {
+                return differs(&format!("step {i}"), got, expected, &input());
+            }
+        }
         Ok(())
     }
 

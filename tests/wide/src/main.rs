@@ -3,13 +3,15 @@
 //!     wide [ROUNDS [SEED [SENDING_PROGRAM READING_PROGRAM]]]
 //!     wide all-words
 //!
-//! The second corrects every 32-bit word and compares nothing else. Prints how many comparisons it made of each sort; at the first difference prints the input and both answers and ends with 1.
+//! The second corrects every 32-bit word and compares nothing else. Prints how many comparisons it made of each sort; at the first
+//! difference prints the input and both answers and ends with 1.
 //! What is compared: the answer, every unit of every lent buffer and the sentinels around it, and, for a declined call, that
 //! the buffers are as before.
 
 mod compare;
 mod lent;
 mod programs;
+mod states;
 
 use compare::{Comparison, Difference, Outcome};
 use generate::{jobs, listings, words, Random};
@@ -127,7 +129,7 @@ fn limits(comparison: &mut Comparison) -> Outcome {
         comparison.list(&job, card::LISTING_BYTES)?;
         comparison.round_trip(&job)?;
     }
-    Ok(())
+    comparison.state_limits()
 }
 
 /// A word with every pattern of at most three wrong bits.
@@ -166,7 +168,7 @@ fn round(comparison: &mut Comparison, random: &mut Random) -> Outcome {
         comparison.listing(&listings::any(random))?;
         comparison.words(&words::slice(random))?;
     }
-    Ok(())
+    comparison.state_round(random)
 }
 
 /// How many comparisons there were of each call, by the number that it answered.
@@ -182,7 +184,8 @@ fn print_counts(comparison: &Comparison) {
             _ => println!("    declined, {number:>2} {count:>12}"),
         }
     }
-    if !cfg!(feature = "steps") {
-        println!("steps of the library\n    not compared: not in the header yet");
+    println!("among the steps: done, and 11 for one reason alone");
+    for (what, count) in &comparison.among {
+        println!("    {what:<40} {count:>12}");
     }
 }
