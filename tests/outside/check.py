@@ -1,0 +1,321 @@
+#!/usr/bin/env python3
+"""The sending program against an outside decoder, Debian's multimon-ng.
+
+    python3 tests/outside/check.py                      target/bin/page_send of this repository, seed 1, 60 drawn jobs
+    python3 tests/outside/check.py PROGRAM SEED DRAWN   another program, seed and number of drawn jobs
+
+multimon-ng comes with `apt-get install multimon-ng`. Where it is missing the check says so and ends well.
+
+Each job is sent, its listing is made into sound, and multimon-ng, which knows nothing of this library, says what it hears. Its
+lines must be the job's pages, each with address, function and text, in the order in which their addresses go out. That order
+is worked out here, from the rule for the slots alone. The fixed jobs have every function in every frame, every bit of an
+address, the neighbours of the reserved addresses, every length of both kinds of text, every character, and messages that end
+just before, on and after the end of a batch. The drawn jobs mix all of these. The first difference is printed with its job,
+and the exit status is then 1.
+
+The sound: 22050 samples a second, 16 bits each with sign, low byte first. A one is a low level and a zero a high one (the
+other way round multimon-ng hears nothing). Every job is heard at 512 and at 1200 bits a second. After the listing come 96 bits
+1010..., as if another transmission began.
+
+Options and conventions of multimon-ng 1.2.0:
+
+- `-b 0` turns its repair of bits off. One wrong bit in an address or message word is then a difference. To show this, the
+  check ends by spoiling listings on purpose, a bit at a time and once by exchanging two frames; each must be found.
+- `-p` shows a page that loses the signal. A page is printed only when something follows it; one whose address is the last
+  word of all needs both `-p` and the bits behind the listing. Plain silence won't do: a steady high level is heard as
+  addresses 0 to 7, a steady low one as more of the message.
+- No `-f`: function 0 is then printed as `Numeric`, function 3 as `Alpha`. With `-f auto` it prints several guesses for a page.
+- No `-e`: that would hide the tones. They have neither `Numeric` nor `Alpha` behind them, whatever their function.
+- Addresses are decimal, all 21 bits, the low three taken from the place in the batch.
+- Numeric texts show brackets, U, hyphen and space as themselves. The spaces that fill the last word are printed and compared.
+- Alphanumeric texts aren't ended by a zero: each whole character of zero bits in the last word's fill is printed as `<NUL>`
+  (none, one or two), and these are compared too. The standard set of signs (`-C US`) is plain ASCII.
+- Control characters are printed by name, such as `<LF>` or `<DEL>`, so `<LF>` may be one character or four. Texts with a
+  control character or with such a name spelt out are compared as they are printed, and counted apart, for there the
+  printed form doesn't settle the bytes.
+- A printed text ends at 1023 characters at the latest, with no part of a name. Only long texts of control characters come
+  so far; of these the first 1019 printed characters are compared, and they are counted too.
+
+- Its clock follows the changes of level. More than 120 DEL in a row are words of ones alone, hundreds of bits without a
+  change; at 512 bits a second it then slips a bit (at 1200, or with the sound stretched by one part in ten thousand, it
+  hears all 240). So DEL is repeated 100 times at most here.
+
+What this can't see: the length of the preamble, single wrong bits in idle words, the number of batches behind the last page.
+"""
+
+import os
+import random
+import re
+import shutil
+import subprocess
+import sys
+
+DECODER = "multimon-ng"
+SAMPLES = 22050
+RATES = (512, 1200)
+TAIL = "10" * 48
+CUT = 1019
+LOW = (-16000).to_bytes(2, "little", signed=True)
+HIGH = (16000).to_bytes(2, "little", signed=True)
+SYNC, IDLE = 0x7CD215D8, 0x7A89C197
+PREAMBLE_WORDS = 18
+TONES, NUMERIC, ALPHA = range(4), 4, 5
+DIGITS = b"0123456789U -]["
+PRINTABLE = bytes(range(32, 127))
+ALL_BYTES = bytes(c for c in range(1, 128) if c not in (3, 4))
+NAMES = dict(enumerate(
+    "NUL SOH STX ETX EOT ENQ ACK BEL BS HT LF VT FF CR SO SI DLE DC1 DC2 DC3 DC4 NAK SYN ETB CAN EM SUB ESC FS GS RS US".split()))
+NAMES[127] = "DEL"
+SPELT = re.compile("<(" + "|".join(NAMES.values()) + ")>")
+HEARD = re.compile(r"POCSAG\d+: Address: +(\d+)  Function: ([0-3]) (?: (Numeric|Alpha): {1,3}?(.*))?")
+LINE = re.compile("[0-9A-F]{8}( [0-9A-F]{8})?")
+
+
+class Difference(Exception):
+    pass
+
+
+# A page is (identity, kind, text); a job is a list of pages.
+
+def job_lines(job):
+    return "".join("%06X %X%s\n" % (i, k, " " + t.hex().upper() if t else "") for i, k, t in job)
+
+
+def message_words(page):
+    _, kind, text = page
+    if kind == NUMERIC:
+        return -(-len(text) // 5)
+    if kind == ALPHA:
+        return -(-7 * len(text) // 20)
+    return 0
+
+
+def sending_order(job):
+    """The pages by the slots of their addresses: a slot that no message needs takes the first waiting page of its frame."""
+    waiting, order, slot = list(job), [], 0
+    while waiting:
+        page = next((p for p in waiting if p[0] % 8 == slot % 16 // 2), None)
+        if page is None:
+            slot += 1
+        else:
+            waiting.remove(page)
+            order.append(page)
+            slot += 1 + message_words(page)
+    return order
+
+
+def as_printed(page):
+    """Address, function, label and text as multimon-ng prints them, the text without its limit."""
+    identity, kind, text = page
+    if kind == NUMERIC:
+        return identity, 0, "Numeric", text.decode().ljust(5 * message_words(page))
+    if kind == ALPHA:
+        fill = (20 * message_words(page) - 7 * len(text)) // 7
+        return identity, 3, "Alpha", "".join("<%s>" % NAMES[c] if c in NAMES else chr(c) for c in text + bytes(fill))
+    return identity, kind, None, None
+
+
+def is_ambiguous(page):
+    text = page[2]
+    return page[1] == ALPHA and (any(c in NAMES for c in text) or SPELT.search(text.decode()) is not None)
+
+
+def send(program, job):
+    done = subprocess.run([program], input=job_lines(job).encode(), stdout=subprocess.PIPE, stderr=subprocess.PIPE)
+    lines = done.stdout.decode("latin-1").split("\n")
+    if lines.pop() != "" or not lines or not all(LINE.fullmatch(line) for line in lines):
+        raise Difference("the sending program gave no listing: %r" % done.stdout[:200])
+    return [int(word, 16) for line in lines for word in line.split(" ")]
+
+
+def sound(words, rate):
+    bits = "".join(format(word, "032b") for word in words) + TAIL
+    return b"".join((LOW if bit == "1" else HIGH) * ((n + 1) * SAMPLES // rate - n * SAMPLES // rate)
+                    for n, bit in enumerate(bits))
+
+
+def hear(words, rate):
+    """The pages that multimon-ng prints, in its order; a line of another form is kept as it is."""
+    command = [DECODER, "-q", "-c", "-a", "POCSAG%d" % rate, "-p", "-b", "0", "-t", "raw", "-"]
+    done = subprocess.run(command, input=sound(words, rate), stdout=subprocess.PIPE, stderr=subprocess.PIPE)
+    if done.returncode != 0:
+        raise Difference("%s ended with %d: %r" % (DECODER, done.returncode, done.stderr[:200]))
+    heard = []
+    for line in done.stdout.decode("latin-1").split("\n")[:-1]:
+        m = HEARD.fullmatch(line)
+        if m is None:
+            heard.append(line)
+            continue
+        label, text = m.group(3), m.group(4)
+        if label == "Alpha":  # two more spaces make up for the shorter label
+            text = text[2:] if text.startswith("  ") else "(no room) " + text
+        heard.append((int(m.group(1)), int(m.group(2)), label, text and text[:CUT]))
+    return heard
+
+
+def compare(words, job, rate):
+    expected = [(*rest, text and text[:CUT]) for *rest, text in map(as_printed, sending_order(job))]
+    heard = hear(words, rate)
+    if heard == expected:
+        return
+    at = next((n for n, (e, h) in enumerate(zip(expected, heard)) if e != h), min(len(expected), len(heard)))
+    raise Difference("at %d bits a second, page %d of the transmission (of %d; heard %d)\n  expected %r\n  heard    %r" % (
+        rate, at + 1, len(expected), len(heard),
+        expected[at] if at < len(expected) else None, heard[at] if at < len(heard) else None))
+
+
+# The jobs.
+
+def reserved(identity):
+    return identity >> 3 in (IDLE >> 13 & 0x3FFFF, SYNC >> 13 & 0x3FFFF)
+
+
+def draw_identity(rng):
+    while True:
+        identity = rng.getrandbits(21)
+        if not reserved(identity):
+            return identity
+
+
+def draw_text(rng, kind, length):
+    if kind == NUMERIC:
+        text = bytes(rng.choice(DIGITS) for _ in range(length))
+        return text[:-1] + b"7" if text.endswith(b" ") else text
+    signs = ALL_BYTES if rng.random() < 0.1 else PRINTABLE
+    return bytes(rng.choice(signs) for _ in range(length))
+
+
+def draw_page(rng, identity=None):
+    identity = draw_identity(rng) if identity is None else identity
+    kind = rng.randrange(6)
+    if kind in TONES:
+        return identity, kind, b""
+    most = 60 if kind == NUMERIC else 240
+    length = rng.randint(1, rng.choice((5, 20, most)))
+    return identity, kind, draw_text(rng, kind, length)
+
+
+def draw_job(rng):
+    pages = rng.choice((1, 2, 3, 5, 8, 13, 24, 48))
+    shape = rng.randrange(4)
+    frame, same = rng.randrange(8), draw_identity(rng)
+    job = []
+    for _ in range(pages):
+        identity = draw_identity(rng)
+        if shape == 0:  # all in a frame
+            identity = identity & ~7 | frame
+        elif shape == 1 and rng.random() < 0.5:  # many with one identity
+            identity = same
+        job.append(draw_page(rng, identity))
+    return job
+
+
+def fixed_jobs(rng):
+    some = 0x0AB40
+    for frame in range(8):
+        for function in TONES:
+            yield [(some + frame, function, b"")]
+    yield [(some + frame, function, b"") for frame in range(8) for function in TONES]
+    yield [(some + frame, function, b"") for frame in reversed(range(8)) for function in reversed(TONES)]
+    # Identities: none, each and all of the bits, and the neighbours of the reserved ones.
+    ends = [0, 0x1FFFFF, 0x1EA26F, 0x1EA278, 0x1F347F, 0x1F3488] + [1 << n for n in range(21)]
+    yield [(identity, n % 4, b"") for n, identity in enumerate(ends)]
+    for identity in ends[:6]:
+        yield [(identity, NUMERIC, b"42"), (identity, ALPHA, b"Answer"), (identity, 2, b"")]
+    # Every length.
+    for first in (1, 21, 41):
+        yield [(draw_identity(rng), NUMERIC, draw_text(rng, NUMERIC, n)) for n in range(first, first + 20)]
+    for first in range(1, 241, 24):
+        yield [(draw_identity(rng), ALPHA, bytes(rng.choice(PRINTABLE) for _ in range(n))) for n in range(first, first + 24)]
+    # Every character, alone and together.
+    yield [(some, NUMERIC, DIGITS), (some, NUMERIC, DIGITS[::-1]), (some, NUMERIC, b"    1")]
+    yield [(some + n % 8, NUMERIC, bytes([c])) for n, c in enumerate(DIGITS) if c != 32]
+    yield [(some, ALPHA, ALL_BYTES), (some, ALPHA, ALL_BYTES[::-1]), (some, ALPHA, PRINTABLE), (some, ALPHA, b"  two spaces  ")]
+    for first in range(0, len(ALL_BYTES), 48):
+        yield [(some + n % 8, ALPHA, bytes([c])) for n, c in enumerate(ALL_BYTES[first:first + 48])]
+    for c in (1, 10, 17, 32, 64, 127):
+        yield [(some, ALPHA, bytes([c]) * (100 if c == 127 else 240))]
+    yield [(some, ALPHA, b"A<NUL>"), (some, ALPHA, b"<LF>"), (some, ALPHA, b"\n"), (some, ALPHA, b"%s%d%n")]
+    # Messages that end about the end of a batch, alone and with a page behind them.
+    for frame in range(8):
+        for words in (14 - 2 * frame, 15 - 2 * frame, 16 - 2 * frame, 31 - 2 * frame):
+            if words > 0:
+                page = (some + frame, ALPHA, bytes(rng.choice(PRINTABLE) for _ in range(words * 20 // 7)))
+                yield [page]
+                yield [page, (some + 7, 1, b""), (some, 2, b"")]
+    # Full frames; a last word that is an address; messages in the last slots.
+    yield [(some + 7, 1, b""), (some + 15, 2, b"")]
+    yield [(some, 0, b"")] * 3
+    yield [(some + 5, n % 4, b"") for n in range(48)]
+    yield [(some + 7, NUMERIC, b"1")]
+    yield [(some + 7, NUMERIC, b"1"), (some + 7, ALPHA, b"A"), (some, 3, b"")]
+    yield [(some + n % 8, ALPHA, bytes(rng.choice(PRINTABLE) for _ in range(240))) for n in range(48)]
+
+
+# Spoilt listings, each of which has to be found.
+
+def spoilt(words, rng):
+    used = [n for n, word in enumerate(words) if n >= PREAMBLE_WORDS and word not in (IDLE, SYNC)]
+    changed = list(words)
+    changed[rng.choice(used)] ^= 1 << rng.randrange(32)
+    return changed
+
+
+def finds(words, job, rate):
+    try:
+        compare(words, job, rate)
+    except Difference:
+        return True
+    return False
+
+
+def main(arguments):
+    here = os.path.dirname(os.path.abspath(__file__))
+    program = os.path.abspath(arguments[0] if arguments else os.path.join(here, "..", "..", "target", "bin", "page_send"))
+    seed = int(arguments[1]) if len(arguments) > 1 else 1
+    drawn = int(arguments[2]) if len(arguments) > 2 else 60
+    if shutil.which(DECODER) is None:
+        print("outside: %s isn't installed, nothing compared" % DECODER)
+        return 0
+    if not os.access(program, os.X_OK):
+        print("outside: no sending program at %s" % arguments[0] if arguments else "outside: target/bin/page_send isn't built")
+        return 2
+    rng = random.Random(seed)
+    jobs = list(fixed_jobs(rng)) + [draw_job(rng) for _ in range(drawn)]
+    pages = {"tone": 0, "numeric": 0, "alphanumeric": 0}
+    ambiguous = cut = spoilings = 0
+    for number, job in enumerate(jobs):
+        try:
+            words = send(program, job)
+            for rate in RATES:
+                compare(words, job, rate)
+        except Difference as difference:
+            print("outside: job %d differs, %s\nthe job:\n%s" % (number + 1, difference, job_lines(job)), end="")
+            return 1
+        for page in job:
+            pages["numeric" if page[1] == NUMERIC else "alphanumeric" if page[1] == ALPHA else "tone"] += 1
+            ambiguous += is_ambiguous(page)
+            cut += len(as_printed(page)[3] or "") > CUT
+        if number % 3 == 0:
+            spoilings += 1
+            if not finds(spoilt(words, rng), job, RATES[number % 2]):
+                print("outside: a wrong bit wasn't found\nthe job:\n%s" % job_lines(job), end="")
+                return 1
+    job = [(9, NUMERIC, b"12")]
+    words = send(program, job)
+    first = PREAMBLE_WORDS + 1
+    words[first:first + 4] = words[first + 2:first + 4] + words[first:first + 2]
+    spoilings += 1
+    if not finds(words, job, RATES[0]):
+        print("outside: two exchanged frames weren't found")
+        return 1
+    print("outside: %d jobs with %d pages compared at %s bits a second: %s" % (
+        len(jobs), sum(pages.values()), " and ".join(map(str, RATES)), ", ".join("%d %s" % (n, k) for k, n in pages.items())))
+    print("outside: %d of the texts have control characters or their names and are compared as printed only, %d of these in part" % (
+        ambiguous, cut))
+    print("outside: %d spoilt listings found; no difference" % spoilings)
+    return 0
+
+
+if __name__ == "__main__":
+    sys.exit(main(sys.argv[1:]))
