@@ -28,6 +28,7 @@ pub const FAULTS: &[&str] = &[
     "301-batches",
     "37-preamble-lines",
     "start-writes-when-declined",
+    "start-leaves-words",
     "49-pages",
     "frame-8",
     "ending-at-4033",
@@ -207,6 +208,9 @@ unsafe extern "C" fn card_start(job: *const u8, job_length: usize, state: *mut S
         next.pages.lengths[i] = page.message_words() as u16;
         next.pages.frames[i] = page.frame() as u8;
         page.push_message(&mut words);
+    }
+    if is("start-leaves-words") {
+        next.words = (*state).words;
     }
     next.words[..words.len()].copy_from_slice(&words);
     *state = *next;

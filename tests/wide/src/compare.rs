@@ -177,6 +177,12 @@ impl Comparison {
                 None => Ok(()),
             };
         }
+        // the header: what the state held before does not matter
+        let mut again = Kept::rubbish(&mut self.random);
+        steps::start(job, &mut again.sender);
+        if let Some(place) = again.difference(&state) {
+            return Err(Difference(format!("a start leaves {place} as it was\n{}", input())));
+        }
         let expected = words.iter().map(|&word| Step::word(word)).chain([Step::DONE; 3]);
         for (i, expected) in expected.enumerate() {
             let got = self.step(&mut state, "step", &mut || format!("step {i}\n{}", input()))?;
