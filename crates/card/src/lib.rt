@@ -1,0 +1,288 @@
+// The library as C calls it: each function is one call of the library, whose answer crosses as numbers (include/spuggenor.h).
+ghost use mathlib.Core.Path.{_≡_};
+ghost use lib.ListN.{length};
+ghost use Rattle.base.specs.Lists.{over};
+ghost use Rattle.codeword.specs.Nearest.{nearest};
+ghost use Rattle.transmission.specs.Sending.{sendingsOf};
+ghost use Rattle.transmission.specs.Report.{reportOf, wordsSent, slotsSent};
+ghost use Rattle.job_listing.specs.Listed.{listingText, listedOf, bytesListed};
+ghost use Rattle.listing.specs.Words.{wordsOf};
+ghost use Rattle.reader.specs.Answers.{readWords, readListing, linesRead};
+ghost use Rattle.sender.specs.Start.{startedOf};
+ghost use Rattle.sender.specs.Step.{stepOf};
+ghost use Rattle.card.specs.Answers.{wordFor, reportFor, bytesFor, readingFor, refusalFor, stateFor, stepFor, begunFor};
+use codeword::Correction;
+use job::JobAnswer;
+use job_listing::Listed;
+use reader::Reading;
+use sender::Answer;
+use sender::Sender;
+use transmission::Report;
+
+// A word, and 0 or 20.
+#[repr(C)]
+pub struct CardWord {
+    pub word: u32,
+    pub number: u32,
+}
+
+// A job's report.
+#[repr(C)]
+pub struct CardReport {
+    pub place: usize,
+    pub number: u32,
+    pub batches: u32,
+    pub words: u32,
+}
+
+// How many bytes are written.
+#[repr(C)]
+pub struct CardBytes {
+    pub place: usize,
+    pub bytes: usize,
+    pub number: u32,
+}
+
+// How many bytes of page lines are written, and what was heard.
+#[repr(C)]
+pub struct CardReading {
+    pub place: usize,
+    pub bytes: usize,
+    pub number: u32,
+    pub pages: u32,
+    pub lost: u32,
+    pub orphans: u32,
+}
+
+// A number and its place.
+#[repr(C)]
+pub struct CardRefusal {
+    pub place: usize,
+    pub number: u32,
+}
+
+// A step's word; done is 1 where all words are out.
+#[repr(C)]
+pub struct CardStep {
+    pub word: u32,
+    pub done: u32,
+    pub number: u32,
+}
+
+// The answer to a job, and the state that the caller then keeps.
+struct Begun {
+    refusal: CardRefusal,
+    state: Sender,
+}
+
+// The codeword at most two bits away from a word, or the word itself and number 20.
+#[no_mangle]
+pub extern "C" fn card_correct(word: u32) -> CardWord
+    ensures { λ r. ⌜ r ≡ wordFor word (nearest word) ⌝ }
+{
+    let Correction::Corrected(c) = codeword::correct(word) else {
+        return CardWord {
+            word: word,
+            number: 20,
+        };
+    };
+    CardWord {
+        word: c.word(),
+        number: 0,
+    }
+}
+
+// A report as numbers.
+fn report_numbers(r: Report) -> CardReport
+    ensures { λ n. ⌜ n ≡ reportFor r ⌝ }
+{
+    let place = transmission::place(r);
+    let number = transmission::number(r);
+    match r {
+        Report::Sent { batches, words } => CardReport {
+            place: place,
+            number: number,
+            batches: batches,
+            words: words,
+        },
+        Report::Declined { why: _, place: _ } => CardReport {
+            place: place,
+            number: number,
+            batches: 0,
+            words: 0,
+        },
+        Report::NoRoom => CardReport {
+            place: place,
+            number: number,
+            batches: 0,
+            words: 0,
+        },
+    }
+}
+
+// Sends a job into lent words and slots.
+#[no_mangle]
+pub extern "C" fn card_send(job: &[u8], words: &mut [u32], slots: &mut [u32]) -> CardReport
+    ensures { λ r. ⌜ r ≡ reportFor (reportOf (now (job .entry)) (length (now (words .entry))) (length (now (slots .entry)))) ⌝ }
+    ensures { λ _. ⌜ now (words .exit) ≡ over (now (words .entry)) (wordsSent (reportOf (now (job .entry)) (length (now (words .entry))) (length (now (slots .entry)))) (sendingsOf (now (job .entry)))) ⌝ }
+    ensures { λ _. ⌜ now (slots .exit) ≡ over (now (slots .entry)) (slotsSent (reportOf (now (job .entry)) (length (now (words .entry))) (length (now (slots .entry)))) (sendingsOf (now (job .entry)))) ⌝ }
+{
+    let report = transmission::send(job, words, slots);
+    report_numbers(report)
+}
+
+// A listing's answer as numbers.
+fn listed_numbers(a: Listed) -> CardBytes
+    ensures { λ n. ⌜ n ≡ bytesFor a ⌝ }
+{
+    let place = job_listing::place(a);
+    let number = job_listing::number(a);
+    match a {
+        Listed::Written(n) => CardBytes {
+            place: place,
+            bytes: n,
+            number: number,
+        },
+        Listed::Declined { why: _, place: _ } => CardBytes {
+            place: place,
+            bytes: 0,
+            number: number,
+        },
+        Listed::NoRoom => CardBytes {
+            place: place,
+            bytes: 0,
+            number: number,
+        },
+    }
+}
+
+// Writes a job's listing over the front of lent bytes.
+#[no_mangle]
+pub extern "C" fn card_list(job: &[u8], out: &mut [u8]) -> CardBytes
+    ensures { λ r. ⌜ r ≡ bytesFor (listedOf (now (job .entry)) (length (now (out .entry)))) ⌝ }
+    ensures { λ _. ⌜ now (out .exit) ≡ over (now (out .entry)) (bytesListed (listedOf (now (job .entry)) (length (now (out .entry)))) (listingText (now (job .entry)))) ⌝ }
+{
+    let listed = job_listing::list_job(job, out);
+    listed_numbers(listed)
+}
+
+// A reading's answer as numbers.
+fn reading_numbers(r: Reading) -> CardReading
+    ensures { λ n. ⌜ n ≡ readingFor r ⌝ }
+{
+    let place = reader::place(r);
+    let number = reader::number(r);
+    match r {
+        Reading::Read {
+            pages,
+            lost,
+            orphans,
+            bytes,
+        } => CardReading {
+            place: place,
+            bytes: bytes,
+            number: number,
+            pages: pages,
+            lost: lost,
+            orphans: orphans,
+        },
+        Reading::Declined(_) => CardReading {
+            place: place,
+            bytes: 0,
+            number: number,
+            pages: 0,
+            lost: 0,
+            orphans: 0,
+        },
+    }
+}
+
+// Writes the page lines of words, batches only, over the front of lent bytes.
+#[no_mangle]
+pub extern "C" fn card_read_words(words: &[u32], out: &mut [u8]) -> CardReading
+    ensures { λ r. ⌜ r ≡ readingFor (readWords (now (words .entry)) (length (now (out .entry)))) ⌝ }
+    ensures { λ _. ⌜ now (out .exit) ≡ over (now (out .entry)) (linesRead (readWords (now (words .entry)) (length (now (out .entry)))) (now (words .entry))) ⌝ }
+{
+    let reading = reader::read_words(words, out);
+    reading_numbers(reading)
+}
+
+// Writes the page lines of a listing over the front of lent bytes.
+#[no_mangle]
+pub extern "C" fn card_read_listing(listing: &[u8], out: &mut [u8]) -> CardReading
+    ensures { λ r. ⌜ r ≡ readingFor (readListing (now (listing .entry)) (length (now (out .entry)))) ⌝ }
+    ensures { λ _. ⌜ now (out .exit) ≡ over (now (out .entry)) (linesRead (readListing (now (listing .entry)) (length (now (out .entry)))) (wordsOf (now (listing .entry)))) ⌝ }
+{
+    let reading = reader::read_listing(listing, out);
+    reading_numbers(reading)
+}
+
+// A job started over a state that was old.
+fn begin(job: &[u8], old: Sender) -> Begun
+    ensures { λ r. ⌜ r ≡ begunFor (startedOf (now (job .entry))) old ⌝ }
+{
+    let started = sender::start(job);
+    let answer = started.answer;
+    let place = job::place(answer);
+    let number = job::number(answer);
+    let refusal = CardRefusal {
+        place: place,
+        number: number,
+    };
+    match answer {
+        JobAnswer::Accepted(_) => {
+            let state = started.state;
+            Begun {
+                refusal: refusal,
+                state: state,
+            }
+        }
+        JobAnswer::Refused { why: _, place: _ } => Begun {
+            refusal: refusal,
+            state: old,
+        },
+    }
+}
+
+// Starts a job's sending in the state that the caller keeps.
+#[no_mangle]
+pub extern "C" fn card_start(job: &[u8], state: &mut Sender) -> CardRefusal
+    ensures { λ r. ⌜ (r ≡ refusalFor (startedOf (now (job .entry)) .answer)) × (now (state .exit) ≡ stateFor (startedOf (now (job .entry)) .answer) (startedOf (now (job .entry)) .state) (now (state .entry))) ⌝ }
+{
+    let old = *state;
+    let begun = begin(job, old);
+    *state = begun.state;
+    begun.refusal
+}
+
+// A step's answer as numbers.
+fn step_numbers(a: Answer) -> CardStep
+    ensures { λ n. ⌜ n ≡ stepFor a ⌝ }
+{
+    match a {
+        Answer::Word(next) => CardStep {
+            word: next,
+            done: 0,
+            number: 0,
+        },
+        Answer::Done => CardStep {
+            word: 0,
+            done: 1,
+            number: 0,
+        },
+        Answer::Refused => CardStep {
+            word: 0,
+            done: 0,
+            number: 11,
+        },
+    }
+}
+
+// The next word, from the state that the caller keeps.
+#[no_mangle]
+pub extern "C" fn card_step(state: &mut Sender) -> CardStep
+    ensures { λ r. ⌜ (r ≡ stepFor (stepOf (now (state .entry)) .answer)) × (now (state .exit) ≡ stepOf (now (state .entry)) .state) ⌝ }
+{
+    let answer = sender::step(state);
+    step_numbers(answer)
+}

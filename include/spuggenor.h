@@ -1,0 +1,140 @@
+/* Spuggenor: the library of a paging terminal's card, as C sees it (x86-64 Linux). Link target/staticlib/libcard.a, made by
+ * `rt staticlib card`.
+ *
+ * What the caller must keep: a pointer that comes with a length points at that many elements, aligned for them, and is not null even
+ * where the length is 0; a buffer or state that a call may write (a pointer without const) overlaps nothing else that the call is
+ * given. Nothing else: every value of every argument and every byte of a state gets an answer. The library allocates nothing and keeps
+ * nothing between calls, so calls on different memory may run at once.
+ * Measured, reading takes some 150 KB of stack, card_start 60 KB, every other call half of that or less.
+ *
+ * number and place are those of document 01's table. A number of 0 says that nothing is declined. A declined call leaves every lent
+ * buffer and state as it was, and its counts are zero. In a lent buffer what stands behind the last element written keeps its value. */
+#ifndef SPUGGENOR_H
+#define SPUGGENOR_H
+
+#include <stddef.h>
+#include <stdint.h>
+
+#ifdef __cplusplus
+extern "C" {
+#define CARD_ASSERT(fact) static_assert(fact, #fact)
+#else
+#define CARD_ASSERT(fact) _Static_assert(fact, #fact)
+#endif
+
+/* Sizes that suffice for every job and every listing. */
+#define CARD_PAGES 48               /* pages of a job, so address slots */
+#define CARD_WORDS 5118             /* words of a transmission: 18 + 17 * 300 */
+#define CARD_PREAMBLE_WORDS 18      /* words in front of a transmission's batches */
+#define CARD_LISTING_BYTES 46062    /* bytes of a transmission's listing: 9 a word */
+#define CARD_LINES_BYTES 48000      /* bytes of the page lines of 300 batches */
+#define CARD_MESSAGE_WORDS 4032     /* message codewords of a job */
+
+/* ---- a received word */
+
+struct card_word {
+    uint32_t word;      /* the codeword at most two bits away, or the word itself where there is none */
+    uint32_t number;    /* 0, or 20 */
+};
+
+/* Corrects a word, all 32 bits counted. */
+struct card_word card_correct(uint32_t word);
+
+/* ---- a job as a whole. A job is its page lines, up to CARD_PAGES of them. */
+
+struct card_report {
+    size_t place;
+    uint32_t number;
+    uint32_t batches;
+    uint32_t words;     /* CARD_PREAMBLE_WORDS + 17 * batches */
+};
+
+/* A job's words and address slots. Writes the transmission, preamble first, over the front of words, and the slot of each page's
+ * address, in job order, over the front of slots. Numbers 1 to 9, then 10 where words or slots is too short. CARD_WORDS words and
+ * CARD_PAGES slots suffice. */
+struct card_report card_send(const uint8_t *job, size_t job_length,
+                             uint32_t *words, size_t words_length,
+                             uint32_t *slots, size_t slots_length);
+
+struct card_bytes {
+    size_t place;
+    size_t bytes;       /* how many are written */
+    uint32_t number;
+};
+
+/* A job's listing, over the front of out. Numbers 1 to 9, then 10 where out is too short. CARD_LISTING_BYTES suffice. */
+struct card_bytes card_list(const uint8_t *job, size_t job_length, uint8_t *out, size_t out_length);
+
+/* ---- reading */
+
+struct card_reading {
+    size_t place;
+    size_t bytes;       /* how many are written */
+    uint32_t number;
+    uint32_t pages;     /* lines written */
+    uint32_t lost;      /* words lost */
+    uint32_t orphans;   /* message words that belong to no page */
+};
+
+/* The page lines of words, over the front of out. The words are batches only: those that card_send writes behind the first
+ * CARD_PREAMBLE_WORDS. Numbers 21, 23, 22, then 10 where out is too short. CARD_LINES_BYTES suffice. */
+struct card_reading card_read_words(const uint32_t *words, size_t words_length, uint8_t *out, size_t out_length);
+
+/* The same of a listing, its preamble included. */
+struct card_reading card_read_listing(const uint8_t *listing, size_t listing_length, uint8_t *out, size_t out_length);
+
+/* ---- a job word by word. The caller keeps the state, and nothing but card_step writes it until the transmission is over. It holds no
+ * pointer, so it may be copied or moved as memory. A state in which another byte was written gets an answer too; that answer is
+ * number 11 exactly where the table says so. */
+
+struct card_sender {
+    struct {
+        uint32_t slot;          /* the next slot, sync not counted */
+        uint32_t page;          /* the page sent last */
+        uint32_t word;          /* the next of its message words, where its message is running */
+        uint8_t preamble;       /* words of the preamble still to come */
+        uint8_t synced;         /* a flag is set where it is not 0: the batch's sync is out and its first slot is not */
+        uint8_t running;        /* a message is running */
+        uint8_t message;        /* the last slot held a message codeword */
+    } cursor;
+    struct {
+        uint32_t count;
+        uint32_t addresses[CARD_PAGES];     /* each page's address codeword */
+        uint16_t starts[CARD_PAGES];        /* where its message words start */
+        uint16_t lengths[CARD_PAGES];       /* how many it has */
+        uint8_t frames[CARD_PAGES];         /* the frame of its address */
+    } pages;
+    uint8_t sent[CARD_PAGES];               /* flags: the page is sent */
+    uint32_t words[CARD_MESSAGE_WORDS];     /* the message codewords of all pages */
+};
+
+CARD_ASSERT(sizeof(struct card_sender) == 16628);
+CARD_ASSERT(offsetof(struct card_sender, cursor.preamble) == 12);
+CARD_ASSERT(offsetof(struct card_sender, pages) == 16);
+CARD_ASSERT(offsetof(struct card_sender, pages.starts) == 212);
+CARD_ASSERT(offsetof(struct card_sender, pages.lengths) == 308);
+CARD_ASSERT(offsetof(struct card_sender, pages.frames) == 404);
+CARD_ASSERT(offsetof(struct card_sender, sent) == 452);
+CARD_ASSERT(offsetof(struct card_sender, words) == 500);
+
+struct card_refusal {
+    size_t place;
+    uint32_t number;
+};
+
+/* Makes the state from which the steps of a job start. What the state held before does not matter. Numbers 1 to 9. */
+struct card_refusal card_start(const uint8_t *job, size_t job_length, struct card_sender *state);
+
+struct card_step_answer {
+    uint32_t word;      /* the next word; 0 where there is none */
+    uint32_t done;      /* 1 where all words are out, again and again; the state then stays as it was */
+    uint32_t number;    /* 0, or 11 */
+};
+
+/* The next word of the transmission that card_send writes, preamble first. From card_start on no step is declined. */
+struct card_step_answer card_step(struct card_sender *state);
+
+#ifdef __cplusplus
+}
+#endif
+#endif

@@ -1,0 +1,62 @@
+/* A job sent whole, sent again word by word, and read back.
+ *
+ * Build and run it in the repository's folder, once `rt staticlib card` has made the archive:
+ *     gcc -Wall -Wextra tests/c/example.c -Iinclude target/staticlib/libcard.a -o target/example && target/example
+ * It prints the page lines in the order of their slots, and ends with status 0 where all agrees. */
+#include "spuggenor.h"
+#include <stdio.h>
+#include <string.h>
+
+static uint32_t words[CARD_WORDS], slots[CARD_PAGES];
+static uint8_t lines[CARD_LINES_BYTES];
+static struct card_sender state;
+
+/* "12" to pager 000009, "HELLO" to pager 000010, a tone with function 2 to pager 00000F */
+static const char job[] = "000009 4 3132\n000010 5 48454C4C4F\n00000F 2\n";
+
+int main(void) {
+    const uint8_t *text = (const uint8_t *)job;
+    size_t length = strlen(job);
+
+    struct card_report sent = card_send(text, length, words, CARD_WORDS, slots, CARD_PAGES);
+    if (sent.number != 0) {
+        printf("refused %u place %zu\n", sent.number, sent.place);
+        return 1;
+    }
+    printf("%u batches, %u words, address slots %u %u %u\n", sent.batches, sent.words, slots[0], slots[1], slots[2]);
+
+    struct card_refusal refusal = card_start(text, length, &state);
+    if (refusal.number != 0) {
+        printf("refused %u place %zu\n", refusal.number, refusal.place);
+        return 1;
+    }
+    uint32_t steps = 0;
+    for (;;) {
+        struct card_step_answer next = card_step(&state);
+        if (next.number != 0) {
+            printf("step %u: refused %u\n", steps, next.number);
+            return 1;
+        }
+        if (next.done)
+            break;
+        if (steps >= sent.words || next.word != words[steps]) {
+            printf("step %u gives %08X\n", steps, next.word);
+            return 1;
+        }
+        steps++;
+    }
+    if (steps != sent.words) {
+        printf("%u steps, %u words\n", steps, sent.words);
+        return 1;
+    }
+    printf("%u steps give the same words\n", steps);
+
+    struct card_reading read = card_read_words(words + CARD_PREAMBLE_WORDS, sent.words - CARD_PREAMBLE_WORDS, lines, CARD_LINES_BYTES);
+    if (read.number != 0) {
+        printf("refused %u place %zu\n", read.number, read.place);
+        return 1;
+    }
+    printf("%u pages, %u lost, %u orphans\n", read.pages, read.lost, read.orphans);
+    fwrite(lines, 1, read.bytes, stdout);
+    return 0;
+}

@@ -1,0 +1,87 @@
+/* The layout of the structs in include/spuggenor.h against what the library itself writes and reads.
+ *
+ *     gcc -Wall -Wextra tests/c/layout.c -Iinclude target/staticlib/libcard.a -o target/layout && target/layout
+ * It prints each difference, and ends with status 0 where there is none. */
+#include "spuggenor.h"
+#include <stdio.h>
+#include <string.h>
+
+static int wrong;
+#define EXPECT(fact) do { if (!(fact)) { printf("line %d: %s\n", __LINE__, #fact); wrong = 1; } } while (0)
+
+static struct card_sender state, kept;
+static uint32_t words[CARD_WORDS], slots[CARD_PAGES + 1];
+static uint8_t out[CARD_LISTING_BYTES];
+
+/* a job started, and one value of its state set: what the next step answers, and whether the state is as it was where it is declined */
+#define STEP_WITH(field, value, expected) do { \
+        EXPECT(card_start(job, sizeof job - 1, &state).number == 0); \
+        state.field = (value); memcpy(&kept, &state, sizeof state); \
+        EXPECT(card_step(&state).number == (expected)); \
+        EXPECT((expected) == 0 || memcmp(&kept, &state, sizeof state) == 0); } while (0)
+
+int main(void) {
+    /* "12" to 000009, then "123456", which takes two message codewords, to 00000F */
+    static const uint8_t job[] = "000009 4 3132\n00000F 4 313233343536\n";
+    memset(&state, 0xFF, sizeof state);
+    struct card_refusal r = card_start(job, sizeof job - 1, &state);
+    EXPECT(r.place == 0 && r.number == 0);
+    EXPECT(state.cursor.slot == 0 && state.cursor.page == 0 && state.cursor.word == 0 && state.cursor.preamble == 18);
+    EXPECT(state.cursor.synced == 0 && state.cursor.running == 0 && state.cursor.message == 0);
+    EXPECT(state.pages.count == 2 && state.pages.addresses[0] == 0x000026EC && state.pages.addresses[2] == 0);
+    EXPECT(state.pages.starts[0] == 0 && state.pages.starts[1] == 1 && state.pages.starts[47] == 0);
+    EXPECT(state.pages.lengths[0] == 1 && state.pages.lengths[1] == 2 && state.pages.lengths[47] == 0);
+    EXPECT(state.pages.frames[0] == 1 && state.pages.frames[1] == 7 && state.pages.frames[47] == 0);
+    EXPECT(state.sent[0] == 0 && state.sent[47] == 0 && state.words[0] == 0xC2199DEA && state.words[3] == 0 && state.words[4031] == 0);
+
+    /* number 11 at each limit */
+    STEP_WITH(cursor.slot, 4800, 0);
+    STEP_WITH(cursor.slot, 4801, 11);
+    STEP_WITH(pages.count, 48, 0);
+    STEP_WITH(pages.count, 49, 11);
+    STEP_WITH(pages.frames[1], 8, 11);
+    STEP_WITH(pages.frames[2], 8, 0);
+    STEP_WITH(pages.starts[1], 4030, 0);
+    STEP_WITH(pages.starts[1], 4031, 11);
+    STEP_WITH(pages.lengths[0], 4032, 0);
+    STEP_WITH(pages.lengths[0], 4033, 11);
+    card_start(job, sizeof job - 1, &state);
+    state.cursor.running = 255; state.cursor.page = 1; state.cursor.word = 1; state.cursor.preamble = 0; state.cursor.synced = 2;
+    struct card_step_answer a = card_step(&state);
+    EXPECT(a.number == 0 && a.done == 0 && a.word == state.words[2] && state.cursor.running == 0 && state.cursor.message == 1 && state.cursor.slot == 1);
+    state.cursor.running = 1;
+    EXPECT(card_step(&state).number == 11);
+
+    /* a declined start leaves the state as it was */
+    memcpy(&kept, &state, sizeof state);
+    r = card_start((const uint8_t *)"000009 0\n200000 0\n", 18, &state);
+    EXPECT(r.place == 2 && r.number == 2 && memcmp(&kept, &state, sizeof state) == 0);
+
+    /* every field of the other answers */
+    struct card_word w = card_correct(0x00000003);
+    EXPECT(w.word == 0 && w.number == 0);
+    w = card_correct(0x00000007);
+    EXPECT(w.word == 7 && w.number == 20);
+    slots[2] = 77; words[35] = 78;
+    struct card_report s = card_send(job, 14, words, 35, slots, 1);
+    EXPECT(s.place == 0 && s.number == 0 && s.batches == 1 && s.words == 35 && slots[0] == 2 && words[21] == 0x000026EC && words[35] == 78);
+    s = card_send(job, 14, words, 34, slots, 1);
+    EXPECT(s.place == 0 && s.number == 10 && s.batches == 0 && s.words == 0);
+    s = card_send(job, 13, words, 35, slots, 1);
+    EXPECT(s.place == 1 && s.number == 1 && s.batches == 0 && s.words == 0);
+    struct card_bytes l = card_list(job, 14, out, sizeof out);
+    EXPECT(l.place == 0 && l.number == 0 && l.bytes == 315);
+    struct card_reading d = card_read_listing(out, l.bytes, out + 400, 14);
+    EXPECT(d.place == 0 && d.number == 0 && d.bytes == 14 && d.pages == 1 && d.lost == 0 && d.orphans == 0 && memcmp(out + 400, job, 14) == 0);
+    d = card_read_listing(out, l.bytes, out + 400, 13);
+    EXPECT(d.place == 0 && d.number == 10 && d.bytes == 0 && d.pages == 0);
+    d = card_read_listing(out, l.bytes - 1, out + 400, 14);
+    EXPECT(d.place == 18 && d.number == 21);
+    words[20] = 7; words[21] = 0xC2199DEA;
+    d = card_read_words(words + CARD_PREAMBLE_WORDS, 17, out, sizeof out);
+    EXPECT(d.place == 0 && d.number == 0 && d.bytes == 0 && d.pages == 0 && d.lost == 1 && d.orphans == 2);
+    words[18] = 7;
+    d = card_read_words(words + CARD_PREAMBLE_WORDS, 17, out, sizeof out);
+    EXPECT(d.place == 1 && d.number == 22 && d.lost == 0 && d.orphans == 0);
+    return wrong;
+}
