@@ -48,7 +48,7 @@ const _: () = {
     assert!(offset_of!(Sender, sent) == 452);
     assert!(offset_of!(Sender, words) == 500);
     // the fields fill the struct, so that there are no bytes between them
-    assert!(12 + 4 == 16 && 16 + 4 + 48 * (4 + 2 + 2 + 1) == 452 && 452 + 48 == 500 && 500 + 4 * MESSAGE_WORDS == BYTES);
+    assert!(size_of::<Sender>() == 3 * 4 + 4 + 4 + (4 + 2 + 2 + 1 + 1) * crate::PAGES + 4 * MESSAGE_WORDS);
 };
 
 impl Sender {

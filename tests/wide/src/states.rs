@@ -5,7 +5,6 @@ use crate::lent::Unit;
 use card::steps::{self, Sender, Step};
 use generate::{jobs, Random};
 use independent::state;
-use std::ops::Range;
 
 const GUARDS: usize = 32;
 
@@ -30,22 +29,22 @@ impl Kept {
 
     /// Where two states or their sentinels differ, if anywhere.
     pub fn difference(&self, other: &Kept) -> Option<String> {
-        self.difference_in(other, &[0..16_628])
+        self.difference_in(other, &[(0, 16_628)])
     }
 
     /// The same, of all that a step leaves: everything but the cursor and the sent flags.
     fn difference_in_rest(&self, other: &Kept) -> Option<String> {
-        self.difference_in(other, &[16..452, 500..16_628])
+        self.difference_in(other, &[(16, 452), (500, 16_628)])
     }
 
-    fn difference_in(&self, other: &Kept, ranges: &[Range<usize>]) -> Option<String> {
+    fn difference_in(&self, other: &Kept, parts: &[(usize, usize)]) -> Option<String> {
         if self.before != other.before || self.behind != other.behind {
             return Some("outside the state".into());
         }
         let (one, other) = (self.sender.bytes(), other.sender.bytes());
         // whether slices are equal is found faster than where they differ
-        let range = ranges.iter().find(|range| one[(*range).clone()] != other[(*range).clone()])?;
-        let at = range.clone().find(|&at| one[at] != other[at])?;
+        let &(from, to) = parts.iter().find(|&&(from, to)| one[from..to] != other[from..to])?;
+        let at = (from..to).find(|&at| one[at] != other[at])?;
         Some(format!("byte {at} of the state"))
     }
 }
@@ -263,14 +262,14 @@ fn near(sender: &Sender, field: usize, page: usize) -> Vec<u32> {
 fn within(random: &mut Random, sender: &mut Sender) {
     let Sender { cursor, pages, sent, words } = sender;
     pages.count = random.pick(&[0, 1, 2, 3, 47, 48, random.clone().below(49) as u32]);
-    for page in 0..48 {
+    for (page, flag) in sent.iter_mut().enumerate() {
         let start = random.below(4033);
         let most = (4032 - start).min(random.pick(&[0, 1, 2, 20, 4032]));
         pages.addresses[page] = random.word();
         pages.starts[page] = start as u16;
         pages.lengths[page] = random.between(0, most) as u16;
         pages.frames[page] = random.below(8) as u8;
-        sent[page] = if random.once_in(2) { 0 } else { random.byte() };
+        *flag = if random.once_in(2) { 0 } else { random.byte() };
         words[random.below(4032)] = random.word();
     }
     cursor.slot = random.pick(&[0, 16 * random.clone().below(301), random.clone().below(4801)]) as u32;
