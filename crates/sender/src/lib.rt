@@ -410,10 +410,10 @@ pub fn step(s: &mut Sender) -> Answer
 }
 
 // The step in place, of a state that is passed and returned: for callers that are proved without a reference to it.
-pub fn step_owned(s: Sender) -> Stepped
-    ensures { λ r. ⌜ r ≡ stepOf s ⌝ }
+pub fn step_owned(state: Sender) -> Stepped
+    ensures { λ r. ⌜ r ≡ stepOf state ⌝ }
 {
-    let mut kept = s;
+    let mut kept = state;
     let given = step(&mut kept);
     Stepped {
         answer: given,
