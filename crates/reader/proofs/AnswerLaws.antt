@@ -23,7 +23,7 @@ use Rattle.reader.specs.Reading.{hear, readAt, ended, slotWord, heardIn}
 use Rattle.reader.specs.Lines.{linesHeard}
 use Rattle.reader.specs.Answers.{unsynced, firstUnsynced, printedInto, readBatches, readWords, faultOf, readListing}
 use Rattle.reader.specs.Symbols.{said, Tells, stateBy, heardBy}
-use Rattle.reader.specs.Progress.{Kept, closed}
+use Rattle.reader.specs.Progress.{KeptAll}
 use Rattle.reader.specs.declared.Fault.the-variants.{Malformed, TooMany, Unsynced, NoRoom}
 use Rattle.reader.specs.declared.Progress.{Progress}
 use Rattle.reader.specs.declared.Reading.the-variants.{Read, Declined}
@@ -41,7 +41,7 @@ module _ (words : List ℕ) (q : ℕ) where
 
 -- ---- the lines of all slots, printed into a buffer of their own
 
-module _ (symbols old : List ℕ) (p : Progress) (lines : List ℕ) (k : Kept symbols (length symbols) (closed false (stateBy symbols (length symbols))) p lines) where
+module _ (symbols old : List ℕ) (p : Progress) (lines : List ℕ) (k : KeptAll symbols p lines) where
   pub all-inside : p .bytes ≤ length lines
   all-inside = omega (arith, k .size, ap length (k .printed), length-take (p .bytes) lines)
 

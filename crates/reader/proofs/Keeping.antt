@@ -1,9 +1,9 @@
 -- What is kept goes along with the state: one law for each way a slot can go. Assumes nothing.
 use mathlib.Core.Path.{_≡_, refl, sym, ap, ap₂, _∙_}
 use mathlib.Core.Bool.{Bool, true, false}
-use mathlib.Core.List.{List, [], _∷_, _++_, map, map-append}
+use mathlib.Core.List.{List, [], _∷_, _++_, map-append}
 use mathlib.Core.Option.{Option, none, some}
-use Prim.Native.Nat.{ℕ, zero, suc, _+_, _-_, _*_, _/_, _%_, _^_, _≤_, _<_}
+use Prim.Native.Nat.{ℕ, suc, _+_, _-_, _*_, _/_, _%_, _^_, _≤_, _<_}
 use native.Mathlib.Numerals.{add-one}
 use native.Mathlib.Omega.{arith}
 use lib.ListN.{length, getD, take, drop, take-append-drop, length-append, length-drop}
@@ -12,10 +12,10 @@ use Rattle.base.specs.Lists.{over}
 use Rattle.base.proofs.ListLaws.{over-behind}
 use Rattle.placement.specs.Placement.{frameOf}
 use Rattle.reader.specs.Reading as reading
-use Rattle.reader.specs.Reading.{Hearing, State, opened, extended, closedAs, close, hear, silent}
+use Rattle.reader.specs.Reading.{Hearing, State, extended, closedAs, close, hear}
 use Rattle.reader.specs.Lines.{lineHeard, linesHeard}
 use Rattle.reader.specs.Symbols.{said, stateBy, groupsSaid, pageIn}
-use Rattle.reader.specs.Progress.{Buffers, Held, nothing, page, Kept, closed}
+use Rattle.reader.specs.Progress.{Held, nothing, page, Kept, closed}
 use Rattle.reader.specs.declared.Meaning.{Meaning}
 use Rattle.reader.specs.declared.Meaning.the-variants.{Lost, Idle, Address, Message}
 use Rattle.reader.specs.declared.Progress.{Progress}

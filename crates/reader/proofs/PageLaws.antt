@@ -2,21 +2,19 @@
 -- Assumes nothing.
 use mathlib.Core.Path.{_≡_, refl, sym, ap, ap₂, _∙_}
 use mathlib.Core.Bool.{Bool, true, false, cond}
-use mathlib.Core.List.{List, [], _∷_, _++_, map}
-use mathlib.Core.Logic.{⊎-elim}
-use Prim.Native.Nat.{ℕ, zero, suc, _+_, _-_, _*_, _/_, _%_, _^_, _≤_, _<_}
+use mathlib.Core.List.{List, [], _∷_, _++_}
+use Prim.Native.Nat.{ℕ, _+_, _-_, _*_, _/_, _%_, _^_, _≤_, _<_}
 use native.Mathlib.Omega.{arith}
 use lib.Dec.{eqb}
 use lib.Pow.{field, mod-mod-pow}
 use lib.ListN.{length, getD, take, drop, length-drop, length-map, List·getD-map}
 use lib.Seq.{length-take-le}
 use borrow.Author.Tests.{le-ltb}
-use Rattle.base.specs.Hex.{digitOf, digitsOf, pairsOf}
+use Rattle.base.specs.Hex.{digitsOf, pairsOf}
 use Rattle.base.specs.Lists.{over, tab}
-use Rattle.base.proofs.Bools.{either}
 use Rattle.base.proofs.ListLaws.{tab-same}
 use Rattle.text.specs.Coding.{widthOf}
-use Rattle.text.specs.Heard.{bitIn, fromLow, charHeard, shown, charsIn, wholeIn, trimmed, untilEnd, heardText}
+use Rattle.text.specs.Heard.{bitIn, charHeard, shown, charsIn, wholeIn, trimmed, untilEnd, heardText}
 use Rattle.text.specs.declared.Coding.{Coding}
 use Rattle.text.specs.declared.Coding.the-variants.{Numeric, Alphanumeric}
 use Rattle.text.proofs.BitLaws.{low-same, cut-bit}

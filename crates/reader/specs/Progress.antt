@@ -1,13 +1,13 @@
 -- What the code keeps of a reading before a slot, and what holds of it. No public promise needs this. `Progress` is src/lib.rt's struct.
 use mathlib.Core.Path.{_≡_}
-use mathlib.Core.Bool.{Bool}
+use mathlib.Core.Bool.{Bool, false}
 use mathlib.Core.List.{List}
 use mathlib.Core.Option.{Option, none, some}
 use Prim.Native.Nat.{ℕ, _+_, _*_, _^_, _≤_, _<_}
 use lib.ListN.{length, getD, take}
 use Rattle.reader.specs.Reading.{Hearing, State, close}
 use Rattle.reader.specs.Lines.{linesHeard}
-use Rattle.reader.specs.Symbols.{pageIn}
+use Rattle.reader.specs.Symbols.{stateBy, pageIn}
 use Rattle.reader.specs.declared.Progress.{Progress}
 
 -- at most 300 batches, ten digits a slot and eleven bytes a slot
@@ -37,3 +37,7 @@ pub record Kept (symbols : List ℕ) (s : ℕ) (st : State) (p : Progress) (line
 -- the state once the open page, if any, is closed
 abbrev pub closed : Bool → State → State
 closed cut st = record { pages = close cut (st .pages) (st .held); held = none; lost = st .lost; orphans = st .orphans }
+
+-- all slots are heard, and the end has closed the open page
+abbrev pub KeptAll : List ℕ → Progress → List ℕ → Type 0
+KeptAll symbols p lines = Kept symbols (length symbols) (closed false (stateBy symbols (length symbols))) p lines

@@ -1,6 +1,5 @@
 // Words or a listing to page lines and a report (document 01, "Listings and reading").
 ghost use mathlib.Core.Path.{_≡_};
-ghost use mathlib.Core.Bool.{false};
 ghost use Prim.Native.Nat.{ℕ, _+_, _*_, _/_, _≤_, _<_};
 ghost use lib.ListN.{length, getD};
 ghost use Rattle.base.specs.Hex.{pairsOf};
@@ -14,7 +13,7 @@ ghost use Rattle.reader.specs.Reading.{closedAs};
 ghost use Rattle.reader.specs.Lines.{kindHeard, fives, digitsHeard, lineHeard};
 ghost use Rattle.reader.specs.Answers.{firstUnsynced, printedInto, linesOf, readBatches, readWords, faultOf, readListing, linesRead, numberOf, placeOf};
 ghost use Rattle.reader.specs.Symbols.{said, Tells, stateBy, heardBy, pageIn, Printable};
-ghost use Rattle.reader.specs.Progress.{Buffers, Kept, closed};
+ghost use Rattle.reader.specs.Progress.{Buffers, Kept, KeptAll, closed};
 use codeword::Codeword;
 use codeword::Correction;
 use job::Printing;
@@ -198,8 +197,9 @@ fn kind(function: u8, groups: &[u32]) -> u8
     }
     match function {
         0 => 4,
-        3 => 5,
-        _ => function + 5,
+        1 => 6,
+        2 => 7,
+        _ => 5,
     }
 }
 
@@ -246,7 +246,7 @@ fn said(symbol: u32) -> Meaning
     Meaning::Address(symbol / 4 * 8, symbol % 4)
 }
 
-// Closes the open page, if any, before slot s.
+// Closes the open page, if any, before slot s: its line is printed behind the others.
 fn close(
     p: Progress,
     symbols: &[u32],
@@ -275,7 +275,7 @@ fn close(
     }
 }
 
-// Goes on by slot s.
+// Hears the word of slot s, by its symbol.
 fn hear(p: Progress, symbols: &[u32], s: usize, digits: &mut [u8], lines: &mut [u8]) -> Progress
     requires { ⌜ Buffers (now symbols) (now digits) (now lines) ⌝ }
     requires { ⌜ s < length (now symbols) ⌝ }
@@ -305,10 +305,10 @@ fn hear(p: Progress, symbols: &[u32], s: usize, digits: &mut [u8], lines: &mut [
     }
 }
 
-// Hears all slots, and prints the lines of their pages over the front of the lent lines.
+// Hears all slots: the lines of their pages are printed over the front of the lent lines.
 fn hear_all(symbols: &[u32], digits: &mut [u8], lines: &mut [u8]) -> Progress
     requires { ⌜ Buffers (now symbols) (now digits) (now lines) ⌝ }
-    ensures { λ r. ⌜ Kept (now (symbols .entry)) (length (now (symbols .entry))) (closed false (stateBy (now (symbols .entry)) (length (now (symbols .entry))))) r (now (lines .exit)) ⌝ }
+    ensures { λ r. ⌜ KeptAll (now (symbols .entry)) r (now (lines .exit)) ⌝ }
 {
     let mut p = Progress {
         held: 0,

@@ -5,7 +5,6 @@ use Prim.Native.Nat.{ℕ, _-_, _≤_, _<_}
 use native.Mathlib.Omega.{arith}
 use denote.Ref.{now}
 use borrow.Author.Count.{below-none, below-more}
-use borrow.Author.Needs.{needs}
 use Rattle.reader.specs.Answers.{unsynced}
 use Rattle.reader.proofs.AnswerLaws.{stops, none-unsynced}
 use Rattle.reader.proofs.first_unsynced.Statement.{statement}

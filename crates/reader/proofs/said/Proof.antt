@@ -1,5 +1,4 @@
 -- `reader::said` meets its contract. Assumes nothing.
-use mathlib.Core.Path.{sym, ap, _∙_}
 use native.Mathlib.Omega.{arith}
 use borrow.Author.Needs.{needs}
 use Rattle.reader.proofs.SymbolLaws.{is-lost, is-message, is-idle, is-address}
