@@ -41,24 +41,28 @@ module _ (words : List ℕ) (q : ℕ) where
 
 -- ---- the lines of all slots, printed into a buffer of their own
 
-module _ (symbols old : List ℕ) (p : Progress) (lines : List ℕ) (k : KeptAll symbols p lines) where
+module _ {symbols : List ℕ} {p : Progress} {lines : List ℕ} (k : KeptAll symbols p lines) where
   pub all-inside : p .bytes ≤ length lines
   all-inside = omega (arith, k .size, ap length (k .printed), length-take (p .bytes) lines)
 
   pub all-size : p .bytes ≡ length (take (p .bytes) lines)
   all-size = k .size ∙ sym (ap length (k .printed))
 
-  -- they are longer than the lent slice
-  pub no-room : length old < p .bytes → Declined NoRoom ≡ printedInto (heardBy symbols) (length old)
-  no-room h = rw (lt-ltb (length old) (length (linesHeard (heardBy symbols .pages))) (omega (arith, k .size)))
+  module _ (old : List ℕ) where
+    -- they are longer than the lent slice
+    pub no-room : length old < p .bytes → Declined NoRoom ≡ printedInto (heardBy symbols) (length old)
+    no-room h = rw (lt-ltb (length old) (length (linesHeard (heardBy symbols .pages))) (omega (arith, k .size)))
 
-  -- they go over its front
-  pub all-read : p .bytes ≤ length old → Read (p .pages) (p .lost) (p .orphans) (p .bytes) ≡ printedInto (heardBy symbols) (length old)
-  all-read h = rw (le-ltb (length old) (length (linesHeard (heardBy symbols .pages))) (omega (arith, k .size)), k .pages, k .lost, k .orphans, k .size)
+    -- they go over its front
+    pub all-read : p .bytes ≤ length old → Read (p .pages) (p .lost) (p .orphans) (p .bytes) ≡ printedInto (heardBy symbols) (length old)
+    all-read h = rw (le-ltb (length old) (length (linesHeard (heardBy symbols .pages))) (omega (arith, k .size)), k .pages, k .lost, k .orphans, k .size)
 
-  pub all-copied : {out : List ℕ} → out ≡ take (length (take (p .bytes) lines)) (take (p .bytes) lines) ++ drop (length (take (p .bytes) lines)) old
-      → out ≡ over old (linesHeard (heardBy symbols .pages))
-  all-copied e = e ∙ ap (λ (l : List ℕ). l ++ drop (length (take (p .bytes) lines)) old) (take-length (take (p .bytes) lines)) ∙ ap (over old) (k .printed)
+    pub all-copied : {out : List ℕ} → out ≡ take (length (take (p .bytes) lines)) (take (p .bytes) lines) ++ drop (length (take (p .bytes) lines)) old
+        → out ≡ over old (linesHeard (heardBy symbols .pages))
+    all-copied e =
+        e
+        ∙ ap (λ (l : List ℕ). l ++ drop (length (take (p .bytes) lines)) old) (take-length (take (p .bytes) lines))
+        ∙ ap (over old) (k .printed)
 
 -- ---- whole batches
 

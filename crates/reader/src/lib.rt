@@ -219,7 +219,8 @@ fn print_page(
 {
     let address = symbols[a];
     let function = (address % 4) as u8;
-    let identity = address / 4 * 8 + (a % 16 / 2) as u32;
+    let frame = (a % 16 / 2) as u32;
+    let identity = address / 4 * 8 + frame;
     let first = a + 1;
     let groups = &symbols[first..s];
     let n = write_page(function, groups, digits);

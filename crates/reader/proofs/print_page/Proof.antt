@@ -54,11 +54,11 @@ shared-slice-read-address c = search needs
 cast-function : tie.Need-cast-function
 cast-function c = search needs
 
+cast-frame : tie.Need-cast-frame
+cast-frame c = search needs
+
 mul-identity : tie.Need-mul-identity
 mul-identity c = search needs
-
-cast-identity : tie.Need-cast-identity
-cast-identity c = search needs
 
 add-identity : tie.Need-add-identity
 add-identity c = search needs
@@ -126,8 +126,8 @@ print-page-spec =
     mul-address
     shared-slice-read-address
     cast-function
+    cast-frame
     mul-identity
-    cast-identity
     add-identity
     add-first
     mul-groups
