@@ -7,13 +7,13 @@ use mathlib.Core.Logic.{⊎-elim}
 use native.Mathlib.Numerals.{add-one}
 use native.Mathlib.Nat.{div-div-eq-div-mul, div-one, pow-suc, pow-succ', pow-le-pow-right, mul-le-mul-right, mul-assoc}
 use native.Mathlib.Omega.{arith}
-use lib.Dec.{leb}
+use lib.Dec.{leb, ltb}
 use lib.ListN.{length, getD, take, drop, drop-of-length-le}
 use lib.Seq.{drop-cons}
-use borrow.Author.Tests.{leb-true, leb-false, le-leb, lt-leb}
-use Rattle.base.specs.Hex.{between, isHex, hexOf, digitOf, hexNumber, digitsOf, bytesOf, pairsOf}
+use borrow.Author.Tests.{leb-true, leb-false, le-leb, lt-leb, lt-ltb}
+use Rattle.base.specs.Hex.{between, isHex, hexOf, digitValue, digitOf, hexNumber, digitsOf, bytesOf, pairsOf}
 use Rattle.base.specs.Leading.{leading}
-use Rattle.base.proofs.Bools.{and-true, true-false}
+use Rattle.base.proofs.Bools.{and-true, and-both, true-false}
 use Rattle.base.proofs.LeadingLaws.{leading-cons}
 
 -- ---- one digit
@@ -29,6 +29,45 @@ hex-small b =
     small-at b (between 48 57 b) (between 65 70 b)
     (λ e. leb-true b 57 (and-true (leb 48 b) (leb b 57) e .1))
     (λ e. leb-true b 70 (and-true (leb 65 b) (leb b 70) e .1))
+
+-- a byte that is no digit: it is none of them, one after the other
+pub past : (lo hi b : ℕ) → (b ≡ lo → ⊥) → between (lo + 1) hi b ≡ false → between lo hi b ≡ false
+past lo hi b ne e = go (leb lo b) (leb b hi) refl refl
+  where
+    go : (p q : Bool) → leb lo b ≡ p → leb b hi ≡ q → p && q ≡ false
+    go false q u v = refl
+    go true false u v = refl
+    go true true u v = let h = leb-true lo b u in absurd (true-false (and-both (le-leb (lo + 1) b (omega (arith, ne))) v) e)
+
+pub behind : (lo hi b : ℕ) → hi < lo → between lo hi b ≡ false
+behind lo hi b h = go (leb lo b) (leb b hi) refl refl
+  where
+    go : (p q : Bool) → leb lo b ≡ p → leb b hi ≡ q → p && q ≡ false
+    go false q u v = refl
+    go true false u v = refl
+    go true true u v = let x = leb-true lo b u in let y = leb-true b hi v in let z : ⊥ = omega arith in absurd z
+
+pub none-value : (b : ℕ) → between 48 57 b ≡ false → between 65 70 b ≡ false → 16 ≡ digitValue b
+unfolding digitValue isHex
+none-value b p q = rw (p, q)
+
+-- the value tells whether there is one
+ltb-at : (p : Bool) (v : ℕ) → v ≤ 15 → ltb (cond p v 16) 16 ≡ p
+ltb-at true v h = lt-ltb v 16 (omega arith)
+ltb-at false v h = refl
+
+pub value-hex : (b : ℕ) → ltb (digitValue b) 16 ≡ isHex b
+unfolding digitValue
+value-hex b = ltb-at (isHex b) (hexOf b) (hex-small b)
+
+mod-at : (p q : Bool) (x y : ℕ) → cond p x (cond q y 0) ≤ 15 → cond (p || q) (cond p x (cond q y 0)) 16 % 16 ≡ cond p x (cond q y 0)
+mod-at true q x y h = omega arith
+mod-at false true x y h = omega arith
+mod-at false false x y h = refl
+
+pub value-low : (b : ℕ) → digitValue b % 16 ≡ hexOf b
+unfolding digitValue isHex hexOf
+value-low b = mod-at (between 48 57 b) (between 65 70 b) (b - 48) (b - 55) (hex-small b)
 
 value-at : (v : ℕ) (low : Bool) → leb v 9 ≡ low → v < 16 → hexOf (cond low (v + 48) (v + 55)) ≡ v
 unfolding hexOf

@@ -16,6 +16,10 @@ isHex b = between 48 57 b || between 65 70 b
 unfoldable pub hexOf : ℕ → ℕ
 hexOf b = cond (between 48 57 b) (b - 48) (cond (between 65 70 b) (b - 55) 0)
 
+-- the value of a digit; 16, which no digit has, for any other byte
+unfoldable pub digitValue : ℕ → ℕ
+digitValue b = cond (isHex b) (hexOf b) 16
+
 -- the digit of a value below 16: '0' to '9', then 'A' to 'F'
 unfoldable pub digitOf : ℕ → ℕ
 digitOf v = cond (leb v 9) (v + 48) (v + 55)

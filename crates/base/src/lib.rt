@@ -2,29 +2,48 @@
 ghost use mathlib.Core.Path.{_≡_};
 ghost use Prim.Native.Nat.{_%_, _^_};
 ghost use lib.ListN.{length, getD};
-ghost use Rattle.base.specs.Hex.{isHex, hexOf, digitOf, hexNumber, digitsOf, bytesOf};
+ghost use Rattle.base.specs.Hex.{isHex, hexOf, digitValue, digitOf, hexNumber, digitsOf, bytesOf};
 ghost use Rattle.base.specs.Leading.{leading};
 ghost use Rattle.base.specs.Lines.{lineEnd};
+
+// The value of an upper-case hexadecimal digit; 16 for any other byte. One arm a digit: a table, where two ranges would be branches
+// that no processor foresees.
+fn digit_value(b: u8) -> u8
+    ensures { λ r. ⌜ r ≡ digitValue b ⌝ }
+{
+    match b {
+        b'0' => 0,
+        b'1' => 1,
+        b'2' => 2,
+        b'3' => 3,
+        b'4' => 4,
+        b'5' => 5,
+        b'6' => 6,
+        b'7' => 7,
+        b'8' => 8,
+        b'9' => 9,
+        b'A' => 10,
+        b'B' => 11,
+        b'C' => 12,
+        b'D' => 13,
+        b'E' => 14,
+        b'F' => 15,
+        _ => 16,
+    }
+}
 
 // Whether a byte is an upper-case hexadecimal digit.
 pub fn is_hex(b: u8) -> bool
     ensures { λ r. ⌜ r ≡ isHex b ⌝ }
 {
-    match b {
-        b'0'..=b'9' | b'A'..=b'F' => true,
-        _ => false,
-    }
+    digit_value(b) < 16
 }
 
 // The value of an upper-case hexadecimal digit; 0 for any other byte.
 pub fn hex_value(b: u8) -> u8
     ensures { λ r. ⌜ r ≡ hexOf b ⌝ }
 {
-    match b {
-        b'0'..=b'9' => b - b'0',
-        b'A'..=b'F' => b - 55,
-        _ => 0,
-    }
+    digit_value(b) % 16
 }
 
 // The digit of the low four bits of a number.

@@ -1,29 +1,17 @@
 -- `base::is_hex` meets its contract. Assumes nothing.
-use Rattle.base.specs.Hex.{isHex}
-use borrow.Author.Tests.{le-leb, lt-leb}
-use native.Mathlib.Omega.{arith}
+use mathlib.Core.Path.{ap, _∙_}
+use Prim.Native.Nat.{ℕ, _%_}
+use lib.Dec.{ltb}
+use borrow.Author.Needs.{needs}
+use Rattle.base.proofs.HexLaws.{value-hex}
 use Rattle.base.proofs.is_hex.Statement.{statement}
 use Rattle.base.proofs.is_hex.Tie as tie
 
+digit-value-requires : tie.Need-digit-value-requires
+digit-value-requires c κs = search needs
+
 returns : tie.Need-returns
-unfolding isHex
-returns c = let b = c .before .before .args .b in simp (le-leb 48 b (omega arith), le-leb b 57 (omega arith))
-
-returns-2 : tie.Need-returns-2
-unfolding isHex
-returns-2 c = let b = c .before .before .before .before .args .b in simp (le-leb 48 b (omega arith), lt-leb b 57 (omega arith), le-leb 65 b (omega arith), le-leb b 70 (omega arith))
-
-returns-3 : tie.Need-returns-3
-unfolding isHex
-returns-3 c = let b = c .before .args .b in simp (lt-leb 48 b (omega arith), lt-leb 65 b (omega arith))
-
-returns-4 : tie.Need-returns-4
-unfolding isHex
-returns-4 c = let b = c .before .before .before .args .b in simp (le-leb 48 b (omega arith), lt-leb b 57 (omega arith), lt-leb 65 b (omega arith))
-
-returns-5 : tie.Need-returns-5
-unfolding isHex
-returns-5 c = let b = c .before .before .before .before .args .b in simp (le-leb 48 b (omega arith), lt-leb b 57 (omega arith), le-leb 65 b (omega arith), lt-leb b 70 (omega arith))
+returns c = ap (λ (v : ℕ). ltb v 16) (c .digit-value .ensures) ∙ value-hex (c .before .args .b)
 
 pub is-hex-spec : {M : Type 1} → statement M
-is-hex-spec = tie.close (tie.spec returns returns-2 returns-3 returns-4 returns-5)
+is-hex-spec = tie.close (tie.spec digit-value-requires returns)
