@@ -10,10 +10,11 @@ use native.Mathlib.Omega.{arith}
 use lib.Dec.{leb, ltb}
 use lib.ListN.{length, getD, take, drop, drop-of-length-le}
 use lib.Seq.{drop-cons}
-use borrow.Author.Tests.{leb-true, leb-false, le-leb, lt-leb, lt-ltb}
-use Rattle.base.specs.Hex.{between, isHex, hexOf, digitValue, digitOf, hexNumber, digitsOf, bytesOf, pairsOf}
+use borrow.Author.Tests.{leb-true, leb-false, le-leb, lt-leb, lt-ltb, eq-eqb, ne-eqb}
+use Rattle.base.specs.Hex.{between, isHex, hexOf, digitValue, digitOf, hexNumber, hexWord, digitsOf, bytesOf, pairsOf}
 use Rattle.base.specs.Leading.{leading}
-use Rattle.base.proofs.Bools.{and-true, and-both, true-false}
+use Rattle.base.specs.declared.HexWord.the-variants.{Number, NotHex}
+use Rattle.base.proofs.Bools.{either, and-true, and-both, true-false}
 use Rattle.base.proofs.LeadingLaws.{leading-cons}
 
 -- ---- one digit
@@ -59,6 +60,18 @@ ltb-at false v h = refl
 pub value-hex : (b : ℕ) → ltb (digitValue b) 16 ≡ isHex b
 unfolding digitValue
 value-hex b = ltb-at (isHex b) (hexOf b) (hex-small b)
+
+-- 16 is that of no digit
+pub value-none : (b : ℕ) → digitValue b ≡ 16 → isHex b ≡ false
+value-none b e = sym (value-hex b) ∙ ap (λ (v : ℕ). ltb v 16) e
+
+pub value-some : (b : ℕ) → (digitValue b ≡ 16 → ⊥) → (isHex b ≡ true) × (digitValue b ≡ hexOf b)
+unfolding digitValue
+value-some b h =
+    ⊎-elim
+    (λ (e : isHex b ≡ true). (e, rw e))
+    (λ (e : isHex b ≡ false). absurd (h (rw e)))
+    (either (isHex b))
 
 mod-at : (p q : Bool) (x y : ℕ) → cond p x (cond q y 0) ≤ 15 → cond (p || q) (cond p x (cond q y 0)) 16 % 16 ≡ cond p x (cond q y 0)
 mod-at true q x y h = omega arith
@@ -137,6 +150,15 @@ number-lt n (b ∷ s) =
 
 pub number-fits : (s : List ℕ) → length s ≤ 8 → hexNumber 0 s % 2 ^ 32 ≡ hexNumber 0 s
 number-fits s h = omega (arith, number-lt 0 s, pow-le-pow-right {n = 16} (omega arith) {i = length s} {j = 8} h)
+
+-- all are digits, or not
+pub word-number : (s : List ℕ) {n : ℕ} → leading isHex s ≡ length s → n ≡ hexNumber 0 s % 2 ^ 32 → Number n ≡ hexWord s
+unfolding hexWord
+word-number s e f = rw (eq-eqb (leading isHex s) (length s) e, f)
+
+pub word-none : (s : List ℕ) → (leading isHex s ≡ length s → ⊥) → NotHex ≡ hexWord s
+unfolding hexWord
+word-none s h = rw (ne-eqb (leading isHex s) (length s) h)
 
 pub shift-digit : (k n : ℕ) → n / 16 ^ k / 16 ≡ n / 16 ^ suc k
 shift-digit k n = rw (pow-suc 16 k) (div-div-eq-div-mul n (16 ^ k) 16)

@@ -2,7 +2,11 @@
 use Prim.Native.Nat.{ℕ, zero, suc, _+_, _-_, _*_, _/_, _%_, _^_}
 use mathlib.Core.List.{List, [], _∷_}
 use mathlib.Core.Bool.{Bool, cond, _&&_, _||_}
-use lib.Dec.{leb}
+use lib.Dec.{leb, eqb}
+use lib.ListN.{length}
+use Rattle.base.specs.Leading.{leading}
+use Rattle.base.specs.declared.HexWord.{HexWord}
+use Rattle.base.specs.declared.HexWord.the-variants.{Number, NotHex}
 
 -- lo to hi, both counted
 abbrev pub between : ℕ → ℕ → ℕ → Bool
@@ -28,6 +32,10 @@ digitOf v = cond (leb v 9) (v + 48) (v + 55)
 abbrev pub hexNumber : ℕ → List ℕ → ℕ
 hexNumber n [] = n
 hexNumber n (b ∷ s) = hexNumber (n * 16 + hexOf b) s
+
+-- the number that bytes write, its low 32 bits where there are more than eight; none where one of them is no digit
+unfoldable pub hexWord : List ℕ → HexWord
+hexWord s = cond (eqb (leading isHex s) (length s)) (Number (hexNumber 0 s % 2 ^ 32)) NotHex
 
 -- the k lowest digits of a number, the most significant first
 unfoldable pub digitsOf : ℕ → ℕ → List ℕ

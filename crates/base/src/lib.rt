@@ -2,9 +2,17 @@
 ghost use mathlib.Core.Path.{_≡_};
 ghost use Prim.Native.Nat.{_%_, _^_};
 ghost use lib.ListN.{length, getD};
-ghost use Rattle.base.specs.Hex.{isHex, hexOf, digitValue, digitOf, hexNumber, digitsOf, bytesOf};
+ghost use Rattle.base.specs.Hex.{isHex, hexOf, digitValue, digitOf, hexNumber, hexWord, digitsOf, bytesOf};
 ghost use Rattle.base.specs.Leading.{leading};
 ghost use Rattle.base.specs.Lines.{lineEnd};
+
+// What a slice of bytes writes.
+pub enum HexWord {
+    // All are digits, and they write this number.
+    Number(u32),
+    // One of them is no digit.
+    NotHex,
+}
 
 // The value of an upper-case hexadecimal digit; 16 for any other byte. One arm a digit: a table, where two ranges would be branches
 // that no processor foresees.
@@ -79,6 +87,24 @@ pub fn hex_number(s: &[u8]) -> u32
         i += 1;
     }
     n
+}
+
+// The number that the slice writes, its low 32 bits where there are more than eight digits; none where a byte is no digit. Each byte is
+// read once.
+pub fn hex_word(s: &[u8]) -> HexWord
+    ensures { λ r. ⌜ r ≡ hexWord (now (s .entry)) ⌝ }
+{
+    let mut n: u32 = 0;
+    let mut i = 0;
+    while i < s.len() {
+        let d = digit_value(s[i]);
+        if d == 16 {
+            return HexWord::NotHex;
+        }
+        n = n % 268435456 * 16 + d as u32;
+        i += 1;
+    }
+    HexWord::Number(n)
 }
 
 // Fills the slice with the lowest digits of a number, the most significant first.
