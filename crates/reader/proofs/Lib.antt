@@ -4,3 +4,4 @@ pub mod Blocks
 pub mod PageLaws
 pub mod OverLaws
 pub mod Keeping
+pub mod Runs

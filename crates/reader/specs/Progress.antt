@@ -1,10 +1,12 @@
 -- What the code keeps of a reading before a slot, and what holds of it. No public promise needs this. `Progress` is src/lib.rt's struct.
 use mathlib.Core.Path.{_≡_}
-use mathlib.Core.Bool.{Bool, false}
+use mathlib.Core.Bool.{Bool, false, cond}
 use mathlib.Core.List.{List}
 use mathlib.Core.Option.{Option, none, some}
-use Prim.Native.Nat.{ℕ, _+_, _*_, _^_, _≤_, _<_}
+use Prim.Native.Nat.{ℕ, _+_, _*_, _/_, _^_, _≤_, _<_}
+use lib.Dec.{eqb}
 use lib.ListN.{length, getD, take}
+use Rattle.codeword.specs.Code.{idle}
 use Rattle.reader.specs.Reading.{Hearing, State, close}
 use Rattle.reader.specs.Lines.{linesHeard}
 use Rattle.reader.specs.Symbols.{stateBy, pageIn}
@@ -37,6 +39,29 @@ pub record Kept (symbols : List ℕ) (s : ℕ) (st : State) (p : Progress) (line
 -- the state once the open page, if any, is closed
 abbrev pub closed : Bool → State → State
 closed cut st = record { pages = close cut (st .pages) (st .held); held = none; lost = st .lost; orphans = st .orphans }
+
+-- the symbols of the slots from s to e are such
+pub record Run (P : ℕ → Type 0) (symbols : List ℕ) (s e : ℕ) : Type 0 where
+  pub on : s ≤ e
+  pub inside : e ≤ length symbols
+  pub each : (i : ℕ) → s ≤ i → i < e → P (getD symbols i 0)
+
+-- the slots from s to e hold message words
+abbrev pub Messages : List ℕ → ℕ → ℕ → Type 0
+Messages = Run (λ x. (2 ^ 20 ≤ x) × (x < 2 ^ 21))
+
+-- the slots from s to e hold idle
+abbrev pub Idles : List ℕ → ℕ → ℕ → Type 0
+Idles = Run (λ x. x ≡ idle / 2048)
+
+-- what n message words add: they are orphans where no page is open
+abbrev pub withMessages : Progress → ℕ → Progress
+withMessages p n = record { held = p .held; pages = p .pages; lost = p .lost; orphans = cond (eqb (p .held) 0) (p .orphans + n) (p .orphans); bytes = p .bytes }
+
+-- the slots from s to e change nothing: there are none, or no page is open and they hold idle
+pub record Quiet (p : Progress) (symbols : List ℕ) (s e : ℕ) : Type 0 where
+  pub idles : Idles symbols s e
+  pub shut : s < e → p .held ≡ 0
 
 -- all slots are heard, and the end has closed the open page
 abbrev pub KeptAll : List ℕ → Progress → List ℕ → Type 0

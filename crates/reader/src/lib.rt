@@ -13,7 +13,7 @@ ghost use Rattle.reader.specs.Reading.{closedAs};
 ghost use Rattle.reader.specs.Lines.{kindHeard, fives, digitsHeard, lineHeard};
 ghost use Rattle.reader.specs.Answers.{firstUnsynced, printedInto, linesOf, readBatches, readWords, faultOf, readListing, linesRead, numberOf, placeOf};
 ghost use Rattle.reader.specs.Symbols.{said, Tells, stateBy, heardBy, pageIn, Printable};
-ghost use Rattle.reader.specs.Progress.{Buffers, Kept, KeptAll, closed};
+ghost use Rattle.reader.specs.Progress.{Buffers, Messages, Idles, Quiet, withMessages, Kept, KeptAll, closed};
 use codeword::Codeword;
 use codeword::Correction;
 use job::Printing;
@@ -68,6 +68,9 @@ struct Progress {
 
 // The symbol of a lost word. Any other word's symbol is the 21 information bits of its codeword.
 const LOST: u32 = 0x20_0000;
+
+// The symbol of idle.
+const IDLE: u32 = 0xF_5138;
 
 // A codeword's symbol.
 fn symbol(c: Codeword) -> u32
@@ -241,7 +244,7 @@ fn said(symbol: u32) -> Meaning
     if 0x10_0000 <= symbol {
         return Meaning::Message(symbol % 0x10_0000);
     }
-    if symbol == Codeword::IDLE.word() / 2048 {
+    if symbol == IDLE {
         return Meaning::Idle;
     }
     Meaning::Address(symbol / 4 * 8, symbol % 4)
@@ -306,7 +309,65 @@ fn hear(p: Progress, symbols: &[u32], s: usize, digits: &mut [u8], lines: &mut [
     }
 }
 
-// Hears all slots: the lines of their pages are printed over the front of the lent lines.
+// Where the message words that begin at slot s end.
+fn message_end(symbols: &[u32], s: usize) -> usize
+    requires { ⌜ s ≤ length (now symbols) ⌝ }
+    ensures { λ r. ⌜ Messages (now (symbols .entry)) s r ⌝ }
+{
+    let mut e = s;
+    while e < symbols.len() {
+        if symbols[e] < 0x10_0000 {
+            return e;
+        }
+        if LOST <= symbols[e] {
+            return e;
+        }
+        e += 1;
+    }
+    e
+}
+
+// Where the idle words that begin at slot s end.
+fn idle_end(symbols: &[u32], s: usize) -> usize
+    requires { ⌜ s ≤ length (now symbols) ⌝ }
+    ensures { λ r. ⌜ Idles (now (symbols .entry)) s r ⌝ }
+{
+    let mut e = s;
+    while e < symbols.len() {
+        if symbols[e] != IDLE {
+            return e;
+        }
+        e += 1;
+    }
+    e
+}
+
+// n message words heard: with no page open they are orphans.
+fn hear_messages(p: Progress, n: usize) -> Progress
+    requires { ⌜ p .orphans + n ≤ 4800 ⌝ }
+    ensures { λ r. ⌜ r ≡ withMessages p n ⌝ }
+{
+    if p.held != 0 {
+        return p;
+    }
+    let mut q = p;
+    q.orphans += n as u32;
+    q
+}
+
+// The next slot, from slot s on, that may change more than the number of orphans: with no page open idle words change nothing.
+fn quiet_end(p: Progress, symbols: &[u32], s: usize) -> usize
+    requires { ⌜ s ≤ length (now symbols) ⌝ }
+    ensures { λ r. ⌜ Quiet p (now (symbols .entry)) s r ⌝ }
+{
+    if p.held != 0 {
+        return s;
+    }
+    idle_end(symbols, s)
+}
+
+// Hears all slots: the lines of their pages are printed over the front of the lent lines. Runs of message words, and of idle words
+// with no page open, are passed over in one go.
 fn hear_all(symbols: &[u32], digits: &mut [u8], lines: &mut [u8]) -> Progress
     requires { ⌜ Buffers (now symbols) (now digits) (now lines) ⌝ }
     ensures { λ r. ⌜ KeptAll (now (symbols .entry)) r (now (lines .exit)) ⌝ }
@@ -319,11 +380,16 @@ fn hear_all(symbols: &[u32], digits: &mut [u8], lines: &mut [u8]) -> Progress
         bytes: 0,
     };
     let mut s = 0;
-    while s < symbols.len() {
-        p = hear(p, symbols, s, digits, lines);
-        s += 1;
+    loop {
+        let e = message_end(symbols, s);
+        p = hear_messages(p, e - s);
+        let f = quiet_end(p, symbols, e);
+        if symbols.len() <= f {
+            return close(p, symbols, f, false, digits, lines);
+        }
+        p = hear(p, symbols, f, digits, lines);
+        s = f + 1;
     }
-    close(p, symbols, s, false, digits, lines)
 }
 
 // Room for the digits of the longest page.

@@ -11,19 +11,14 @@ returns c = is-lost (c .before .args .symbol) (c .if1 .taken)
 returns-2 : tie.Need-returns-2
 returns-2 c = is-message (c .before .before .args .symbol) (c .if2 .taken) (c .before .if1 .left)
 
-word-requires : tie.Need-word-requires
-word-requires c κs = search needs
-
 returns-3 : tie.Need-returns-3
-returns-3 c = is-idle (c .before .before .before .before .args .symbol) (omega (arith, c .if3 .taken, c .before .word .ensures))
+returns-3 c = is-idle (c .before .before .before .args .symbol) (c .if3 .taken)
 
-mul-t6 : tie.Need-mul-t6
-mul-t6 c = search needs
+mul-t5 : tie.Need-mul-t5
+mul-t5 c = search needs
 
 returns-4 : tie.Need-returns-4
-returns-4 c =
-    let w = c .before .word .ensures in
-    is-address (c .before .before .before .before .args .symbol) (c .before .before .if2 .left) (λ e. c .if3 .left (omega arith))
+returns-4 c = is-address (c .before .before .before .args .symbol) (c .before .if2 .left) (c .if3 .left)
 
 pub said-spec : {M : Type 1} → statement M
-said-spec = tie.close (tie.spec returns returns-2 word-requires returns-3 mul-t6 returns-4)
+said-spec = tie.close (tie.spec returns returns-2 returns-3 mul-t5 returns-4)
