@@ -12,11 +12,11 @@ use Rattle.reader.specs.Lines.{linesHeard}
 use Rattle.reader.specs.Symbols.{stateBy, pageIn}
 use Rattle.reader.specs.declared.Progress.{Progress}
 
--- at most 300 batches, ten digits a slot and eleven bytes a slot
+-- at most 300 batches, and room for ten digits a slot and eleven bytes a slot
 pub record Buffers (symbols digits lines : List ℕ) : Type 0 where
   pub slots : length symbols ≤ 4800
-  pub room : 48000 ≤ length digits
-  pub space : 52800 ≤ length lines
+  pub room : 10 * length symbols ≤ length digits
+  pub space : 11 * length symbols ≤ length lines
 
 -- The open page before slot s, by one more than its address's slot; 0 where none is open. The closed pages, so many with so many bytes
 -- of lines, fill no more slots than there are before it.

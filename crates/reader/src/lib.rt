@@ -392,25 +392,14 @@ fn hear_all(symbols: &[u32], digits: &mut [u8], lines: &mut [u8]) -> Progress
     }
 }
 
-// Room for the digits of the longest page.
-fn blank_digits() -> [u8; 48000] {
-    [0u8; 48000]
-}
-
-// Room for the lines of 300 batches.
-fn blank_lines() -> [u8; 52800] {
-    [0u8; 52800]
-}
-
-// Reads slots by their symbols: the lines go to the front of the bytes, where there is room for all of them.
-fn read_symbols(symbols: &[u32], out: &mut [u8]) -> Reading
-    requires { ⌜ length (now symbols) ≤ 4800 ⌝ }
+// Reads slots by their symbols: the lines go over the front of the lent lines first, and to the front of the bytes where there is room
+// for all of them.
+fn read_into(symbols: &[u32], digits: &mut [u8], lines: &mut [u8], out: &mut [u8]) -> Reading
+    requires { ⌜ Buffers (now symbols) (now digits) (now lines) ⌝ }
     ensures { λ r. ⌜ r ≡ printedInto (heardBy (now (symbols .entry))) (length (now (out .entry))) ⌝ }
     ensures { λ r. ⌜ now (out .exit) ≡ over (now (out .entry)) (linesOf r (heardBy (now (symbols .entry)))) ⌝ }
 {
-    let mut digits = blank_digits();
-    let mut lines = blank_lines();
-    let p = hear_all(symbols, &mut digits, &mut lines);
+    let p = hear_all(symbols, digits, lines);
     let n = p.bytes;
     if out.len() < n {
         return Reading::Declined(Fault::NoRoom);
@@ -422,6 +411,40 @@ fn read_symbols(symbols: &[u32], out: &mut [u8]) -> Reading
         orphans: p.orphans,
         bytes: n,
     }
+}
+
+// Reads the slots of at most 16 batches: to clear the room for 300 would take longer than to read these.
+fn read_few(symbols: &[u32], out: &mut [u8]) -> Reading
+    requires { ⌜ length (now symbols) ≤ 256 ⌝ }
+    ensures { λ r. ⌜ r ≡ printedInto (heardBy (now (symbols .entry))) (length (now (out .entry))) ⌝ }
+    ensures { λ r. ⌜ now (out .exit) ≡ over (now (out .entry)) (linesOf r (heardBy (now (symbols .entry)))) ⌝ }
+{
+    let mut digits = [0u8; 2560];
+    let mut lines = [0u8; 2816];
+    read_into(symbols, &mut digits, &mut lines, out)
+}
+
+// Reads the slots of at most 300 batches.
+fn read_many(symbols: &[u32], out: &mut [u8]) -> Reading
+    requires { ⌜ length (now symbols) ≤ 4800 ⌝ }
+    ensures { λ r. ⌜ r ≡ printedInto (heardBy (now (symbols .entry))) (length (now (out .entry))) ⌝ }
+    ensures { λ r. ⌜ now (out .exit) ≡ over (now (out .entry)) (linesOf r (heardBy (now (symbols .entry)))) ⌝ }
+{
+    let mut digits = [0u8; 48000];
+    let mut lines = [0u8; 52800];
+    read_into(symbols, &mut digits, &mut lines, out)
+}
+
+// Reads slots by their symbols: the lines go to the front of the bytes, where there is room for all of them.
+fn read_symbols(symbols: &[u32], out: &mut [u8]) -> Reading
+    requires { ⌜ length (now symbols) ≤ 4800 ⌝ }
+    ensures { λ r. ⌜ r ≡ printedInto (heardBy (now (symbols .entry))) (length (now (out .entry))) ⌝ }
+    ensures { λ r. ⌜ now (out .exit) ≡ over (now (out .entry)) (linesOf r (heardBy (now (symbols .entry)))) ⌝ }
+{
+    if symbols.len() <= 256 {
+        return read_few(symbols, out);
+    }
+    read_many(symbols, out)
 }
 
 // Room for the symbols of 300 batches.

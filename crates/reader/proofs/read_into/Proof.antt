@@ -1,0 +1,65 @@
+-- `reader::read_into` meets its contract. Assumes nothing.
+use mathlib.Core.Path.{refl}
+use native.Mathlib.Omega.{arith}
+use denote.Ref.{now}
+use borrow.Author.Needs.{needs}
+use Rattle.reader.specs.Progress.{KeptAll}
+use Rattle.reader.proofs.AnswerLaws.{all-inside, all-size, no-room, all-read, all-copied}
+use Rattle.reader.proofs.read_into.Statement.{statement}
+use Rattle.reader.proofs.read_into.Tie as tie
+
+-- once all slots are heard
+kept : (c : tie.After-hear-all) → KeptAll (now (c .before .before .before .before .before .before .before .args .symbols)) (c .hear-all .result) (c .hear-all .last .1 .1 .0)
+kept c = c .hear-all .ensures
+
+hear-all-requires : tie.Need-hear-all-requires
+hear-all-requires c κs = search needs
+
+same-length : tie.Need-same-length
+same-length c = search needs
+
+same-length-2 : tie.Need-same-length-2
+same-length-2 c = search needs
+
+returns : tie.Need-returns
+returns c = (no-room (kept (c .before .before .before .before .before)) (now (c .before .before .before .before .before .before .before .before .before .before .before .before .args .out)) (c .if1 .taken), refl)
+
+slice-reshare-prefix-copy : tie.Need-slice-reshare-prefix-copy
+slice-reshare-prefix-copy c = all-inside (kept (c .before .before .before .before .before))
+
+slice-aggregate-copy : tie.Need-slice-aggregate-copy
+slice-aggregate-copy c = all-size (kept (c .before .before .before .before .before .before))
+
+copy-requires : tie.Need-copy-requires
+copy-requires c κs = omega (arith, all-size (kept (c .before .before .before .before .before .before .before)))
+
+same-length-3 : tie.Need-same-length-3
+same-length-3 c = search needs
+
+same-length-4 : tie.Need-same-length-4
+same-length-4 c = search needs
+
+same-length-5 : tie.Need-same-length-5
+same-length-5 c = search needs
+
+returns-2 : tie.Need-returns-2
+returns-2 c =
+    let heard = kept (c .before .before .before .before .before .before .before .before .before .before) in
+    let old = now (c .before .before .before .before .before .before .before .before .before .before .before .before .before .before .before .before .before .args .out) in
+    (all-read heard old (c .before .before .before .before .before .if1 .left), all-copied heard old (c .before .before .copy .ensures .1))
+
+pub read-into-spec : {M : Type 1} → statement M
+read-into-spec =
+    tie.close
+    (tie.spec
+    hear-all-requires
+    same-length
+    same-length-2
+    returns
+    slice-reshare-prefix-copy
+    slice-aggregate-copy
+    copy-requires
+    same-length-3
+    same-length-4
+    same-length-5
+    returns-2)
