@@ -4,15 +4,14 @@ use Prim.Native.Nat.{ℕ, _+_, _-_, _≤_, _<_}
 use mathlib.Core.Bool.{Bool, true, false, cond, _&&_, _||_}
 use mathlib.Core.List.{List}
 use native.Mathlib.Omega.{arith}
-use lib.Dec.{ltb, leb, lit<}
+use lib.Dec.{eqb, ltb, leb, lit<}
 use lib.ListN.{getD, set}
 use lib.Seq.{set-getD}
 use borrow.Author.Tests.{ltb-false, leb-false, lt-ltb, le-ltb}
 use Rattle.codeword.specs.Code as code
 use Rattle.base.specs.Search.{least}
-use Rattle.base.proofs.SearchLaws.{least-only}
 use Rattle.placement.specs.Placement.{idle, address, message, mayStart, ready, first, out, outOf, allOut}
-use Rattle.placement.proofs.Placed.{all-out, out-all}
+use Rattle.placement.proofs.Placed.{out-all}
 use Rattle.placement.proofs.Steps.{slot-runs}
 use Rattle.transmission.specs.Transmission.{preamble, codewordIn}
 use Rattle.sender.specs.declared.PageTable.{PageTable}
@@ -26,7 +25,7 @@ use Rattle.sender.specs.declared.Answer.{Answer}
 use Rattle.sender.specs.declared.Answer.the-variants.{Word}
 use Rattle.sender.specs.Step.{flagOf, wrongAt, runWrong, declined, jobIn, viewOf, holds, afterIdle, afterMessage, stateFrom, leaves, sends, inSlot, syncDue, finished, afterSync, inBatch, afterPreamble, fromSound, stepOf}
 use Rattle.sender.specs.Plan.{said, unmarked, stateOf, PlanOk}
-use Rattle.sender.proofs.Search.{or-false, set-flag, clear-flag, found-none}
+use Rattle.sender.proofs.Search.{or-false, and-with, set-flag, clear-flag, found-none}
 use Rattle.sender.proofs.Ways.{here, way-declined, way-sound, way-preamble, way-batch, way-done, way-sync, way-slot, way-in}
 
 -- ---- what a state has that is not declined
@@ -95,10 +94,9 @@ module _ (p : PageTable) (sent : List ℕ) (c : Cursor) where
 
   -- ---- the two searches
 
-  pub found-is : (i : ℕ) → i ≤ p .count → ((k : ℕ) → k < i → mayStart (getD sent k 0) (getD (p .frames) k 0) (c .slot) ≡ false)
-      → (i < p .count → mayStart (getD sent i 0) (getD (p .frames) i 0) (c .slot) ≡ true) → i ≡ found
+  pub found-is : least (λ i. mayStart (getD sent i 0) (getD (p .frames) i 0) (c .slot)) (p .count) ≡ found
   unfolding first ready
-  found-is i l before here = sym (least-only (ready (jobIn p) (c .slot) (viewOf p sent c)) (p .count) i (record { within = l; before = before; here = here }))
+  found-is = refl
 
   -- a message is running
   pub runs-on : declined p c ≡ false → (c .running ≡ 0 → ⊥) → false ≡ allOut (jobIn p) (viewOf p sent c)
@@ -108,17 +106,13 @@ module _ (p : PageTable) (sent : List ℕ) (c : Cursor) where
       go true e = let w = sound-word p c g r in absurd (omega (arith, out-all (jobIn p) (viewOf p sent c) e .0, left-run r))
       go false e = sym e
 
-  -- page i is unsent
-  pub unsent-left : (i : ℕ) → i < p .count → getD sent i 0 ≡ 0 → false ≡ allOut (jobIn p) (viewOf p sent c)
-  unsent-left i l u = go (allOut (jobIn p) (viewOf p sent c)) refl
+  -- none is running
+  pub runs-not : (n : ℕ) → p .count ≡ n → c .running ≡ 0 → eqb (least (λ i. eqb (getD sent i 0) 0) n) n ≡ allOut (jobIn p) (viewOf p sent c)
+  unfolding allOut
+  runs-not n q e = ap all-sent (sym q) ∙ sym (ap (λ (left : ℕ). all-sent (p .count) && eqb left 0) (left-none e) ∙ and-with (all-sent (p .count)))
     where
-      go : (b : Bool) → allOut (jobIn p) (viewOf p sent c) ≡ b → false ≡ allOut (jobIn p) (viewOf p sent c)
-      go true e = absurd (out-all (jobIn p) (viewOf p sent c) e .1 i l u)
-      go false e = sym e
-
-  -- neither
-  pub none-left : c .running ≡ 0 → ((i : ℕ) → i < p .count → getD sent i 0 ≡ 0 → ⊥) → true ≡ allOut (jobIn p) (viewOf p sent c)
-  none-left e h = sym (all-out (jobIn p) (viewOf p sent c) (left-none e) h)
+      all-sent : ℕ → Bool
+      all-sent m = eqb (least (λ i. eqb (getD sent i 0) 0) m) m
 
   -- ---- plans
 

@@ -1,10 +1,10 @@
 -- Laws of the tests and searches of a step. Assumes nothing.
 use mathlib.Core.Path.{_≡_, refl, _∙_}
 use Prim.Native.Nat.{ℕ, _<_}
-use mathlib.Core.Bool.{Bool, true, false, _||_}
+use mathlib.Core.Bool.{Bool, true, false, _&&_, _||_}
 use native.Mathlib.Omega.{arith}
 use lib.Dec.{eqb, ltb}
-use borrow.Author.Tests.{ltb-true, ltb-false, eqb-true, eqb-false, eq-eqb, ne-eqb, not-true, not-false}
+use borrow.Author.Tests.{ltb-true, ltb-false, eqb-false, eq-eqb, ne-eqb, not-true}
 use Rattle.base.specs.Search.{least}
 use Rattle.base.proofs.Bools.{true-false}
 use Rattle.base.proofs.SearchLaws.{least-is, least-only}
@@ -17,6 +17,10 @@ or-false false b e = (refl, e)
 pub or-right : (a : Bool) {b : Bool} → b ≡ true → a || b ≡ true
 or-right true q = refl
 or-right false q = q
+
+pub and-with : (a : Bool) → a && true ≡ a
+and-with true = refl
+and-with false = refl
 
 pub both-false : {a b : Bool} → a ≡ false → b ≡ false → a || b ≡ false
 both-false p q = rw (p, q)
@@ -31,9 +35,6 @@ clear-flag x h = rw (eq-eqb x 0 h)
 
 pub flag-set : (x : ℕ) → isSet x ≡ true → x ≡ 0 → ⊥
 flag-set x e = eqb-false x 0 (not-true (eqb x 0) e)
-
-pub flag-clear : (x : ℕ) → isSet x ≡ false → x ≡ 0
-flag-clear x e = eqb-true x 0 (not-false (eqb x 0) e)
 
 -- ---- a search for a number below n that passes t
 

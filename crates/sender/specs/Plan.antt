@@ -14,6 +14,10 @@ use Rattle.sender.specs.declared.Answer.{Answer}
 use Rattle.sender.specs.declared.Answer.the-variants.{Word, Done, Refused}
 use Rattle.sender.specs.Step.{stateFrom}
 
+-- the table of these pages
+abbrev pub tableOf : ℕ → List ℕ → List ℕ → List ℕ → List ℕ → PageTable
+tableOf count addresses starts lengths frames = record { count = count; addresses = addresses; starts = starts; lengths = lengths; frames = frames }
+
 -- the answer, where w is the message word that the plan names
 abbrev pub said : Output → ℕ → Answer
 said Message w = Word w

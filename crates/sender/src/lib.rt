@@ -1,19 +1,20 @@
 // The sender: a job's words one at a time, from a state that the caller keeps (document 01, "Placement").
 ghost use mathlib.Core.Path.{_≡_};
-ghost use mathlib.Core.Bool.{false};
-ghost use Prim.Native.Nat.{_≤_};
-ghost use lib.Dec.{ltb};
-ghost use lib.ListN.{length};
+ghost use mathlib.Core.Bool.{false, _&&_, _||_};
+ghost use mathlib.Core.List.{List};
+ghost use Prim.Native.Nat.{ℕ, _≤_};
+ghost use lib.Dec.{eqb, leb, ltb};
+ghost use lib.ListN.{length, getD};
 ghost use Rattle.base.specs.Hex.{bytesOf};
 ghost use Rattle.base.specs.Lists.{over, tab};
 ghost use Rattle.base.specs.Search.{least};
 ghost use Rattle.codeword.specs.Code.{codeword, messageBits};
 ghost use Rattle.text.specs.Coding.{groupOf};
 ghost use Rattle.job.specs.Job.{jobOf, readingOf};
-ghost use Rattle.placement.specs.Placement.{mayStart, first, allOut};
+ghost use Rattle.placement.specs.Placement.{mayStart};
 ghost use Rattle.transmission.specs.Sending.{sendingsOf};
-ghost use Rattle.sender.specs.Step.{flagOf, pageWrong, wrongAt, runWrong, declined, jobIn, viewOf, inSlot, syncDue, finished, inBatch, fromSound, stepOf};
-ghost use Rattle.sender.specs.Plan.{said, unmarked, PlanOk};
+ghost use Rattle.sender.specs.Step.{isSet, flagOf, pageWrong, declined, inSlot, syncDue, finished, stepOf};
+ghost use Rattle.sender.specs.Plan.{tableOf, said, unmarked, PlanOk};
 ghost use Rattle.sender.specs.Start.{wordsOf, pagesFrom, begun, startOf, noState, startedOf};
 use codeword::Codeword;
 use job::JobAnswer;
@@ -141,14 +142,19 @@ fn page_wrong(frame: u8, start: u16, count: u16) -> bool
 }
 
 // Whether one of the pages is wrong.
-fn pages_wrong(p: PageTable) -> bool
-    requires { ⌜ p .count ≤ 48 ⌝ }
-    ensures { λ r. ⌜ r ≡ ltb (least (wrongAt p) (p .count)) (p .count) ⌝ }
+fn pages_wrong<'a>(
+    count: u32,
+    starts: &'a [u16; 48],
+    lengths: &'a [u16; 48],
+    frames: &'a [u8; 48],
+) -> bool
+    requires { ⌜ count ≤ 48 ⌝ }
+    ensures { λ r. ⌜ r ≡ ltb (least (λ i. pageWrong (getD (now (frames .entry)) i 0) (getD (now (starts .entry)) i 0) (getD (now (lengths .entry)) i 0)) count) count ⌝ }
 {
-    let n = index(p.count);
+    let n = index(count);
     let mut i: usize = 0;
     while i < n {
-        if page_wrong(p.frames[i], p.starts[i], p.lengths[i]) {
+        if page_wrong(frames[i], starts[i], lengths[i]) {
             return true;
         }
         i += 1;
@@ -157,31 +163,37 @@ fn pages_wrong(p: PageTable) -> bool
 }
 
 // Whether the running page is not counted, or does not have the running word.
-fn run_wrong(p: PageTable, c: Cursor) -> bool
-    requires { ⌜ p .count ≤ 48 ⌝ }
-    ensures { λ r. ⌜ r ≡ runWrong p c ⌝ }
+fn run_wrong(count: u32, lengths: &[u16; 48], c: Cursor) -> bool
+    requires { ⌜ count ≤ 48 ⌝ }
+    ensures { λ r. ⌜ r ≡ isSet (c .running) && (leb count (c .page) || leb (getD (now (lengths .entry)) (c .page) 0) (c .word)) ⌝ }
 {
     if c.running == 0 {
         return false;
     }
-    if p.count <= c.page {
+    if count <= c.page {
         return true;
     }
     let k = index(c.page);
-    wide16(p.lengths[k]) <= c.word
+    wide16(lengths[k]) <= c.word
 }
 
-// Whether a step is declined.
-fn is_declined(p: PageTable, c: Cursor) -> bool
-    ensures { λ r. ⌜ r ≡ declined p c ⌝ }
+// Whether a step is declined, whatever the addresses are.
+fn is_declined<'a>(
+    count: u32,
+    starts: &'a [u16; 48],
+    lengths: &'a [u16; 48],
+    frames: &'a [u8; 48],
+    c: Cursor,
+) -> bool
+    ensures { λ r. ⌜ ((addresses : List ℕ) → r ≡ declined (tableOf count addresses (now (starts .entry)) (now (lengths .entry)) (now (frames .entry))) c) ⌝ }
 {
-    if 48 < p.count {
+    if 48 < count {
         return true;
     }
-    if pages_wrong(p) {
+    if pages_wrong(count, starts, lengths, frames) {
         return true;
     }
-    if run_wrong(p, c) {
+    if run_wrong(count, lengths, c) {
         return true;
     }
     4800 < c.slot
@@ -200,15 +212,14 @@ fn may_start(sent: u8, frame: u8, slot: u32) -> bool
 }
 
 // The first page that may start in the slot, or the number of pages.
-fn find_page(p: PageTable, sent: [u8; 48], c: Cursor) -> usize
-    requires { ⌜ p .count ≤ 48 ⌝ }
-    ensures { λ r. ⌜ r ≡ first (jobIn p) (c .slot) (viewOf p sent c) ⌝ }
+fn find_page<'a>(count: u32, frames: &'a [u8; 48], sent: &'a [u8; 48], slot: u32) -> usize
+    requires { ⌜ count ≤ 48 ⌝ }
+    ensures { λ r. ⌜ r ≡ least (λ i. mayStart (getD (now (sent .entry)) i 0) (getD (now (frames .entry)) i 0) slot) count ⌝ }
 {
-    let n = index(p.count);
-    let slot = c.slot;
+    let n = index(count);
     let mut i: usize = 0;
     while i < n {
-        if may_start(sent[i], p.frames[i], slot) {
+        if may_start(sent[i], frames[i], slot) {
             break;
         }
         i += 1;
@@ -216,15 +227,12 @@ fn find_page(p: PageTable, sent: [u8; 48], c: Cursor) -> usize
     i
 }
 
-// Whether no message is running and no page is unsent.
-fn all_out(p: PageTable, sent: [u8; 48], c: Cursor) -> bool
-    requires { ⌜ declined p c ≡ false ⌝ }
-    ensures { λ r. ⌜ r ≡ allOut (jobIn p) (viewOf p sent c) ⌝ }
+// Whether no page is unsent.
+fn all_sent(count: u32, sent: &[u8; 48]) -> bool
+    requires { ⌜ count ≤ 48 ⌝ }
+    ensures { λ r. ⌜ r ≡ eqb (least (λ i. eqb (getD (now (sent .entry)) i 0) 0) count) count ⌝ }
 {
-    if c.running != 0 {
-        return false;
-    }
-    let n = index(p.count);
+    let n = index(count);
     let mut i: usize = 0;
     while i < n {
         if sent[i] == 0 {
@@ -235,11 +243,11 @@ fn all_out(p: PageTable, sent: [u8; 48], c: Cursor) -> bool
     true
 }
 
-// ---- the plan of a step
+// ---- the plan of a step: the pages and flags are lent, since a table that is passed is copied at each call
 
 // A plan that marks no page: the first page's flag is written as it was.
-fn keep(output: Output, at: usize, sent: [u8; 48], c: Cursor) -> Plan
-    ensures { λ r. ⌜ r ≡ unmarked output at sent c ⌝ }
+fn keep(output: Output, at: usize, sent: &[u8; 48], c: Cursor) -> Plan
+    ensures { λ r. ⌜ r ≡ unmarked output at (now (sent .entry)) c ⌝ }
 {
     Plan {
         output: output,
@@ -251,24 +259,31 @@ fn keep(output: Output, at: usize, sent: [u8; 48], c: Cursor) -> Plan
 }
 
 // A slot in which no message is running: the address of the first page that may start, or idle.
-fn plan_open(p: PageTable, sent: [u8; 48], c: Cursor) -> Plan
-    requires { ⌜ (p .count ≤ 48) × (c .slot ≤ 4800) ⌝ }
+fn plan_open<'a>(
+    count: u32,
+    addresses: &'a [u32; 48],
+    lengths: &'a [u16; 48],
+    frames: &'a [u8; 48],
+    sent: &'a [u8; 48],
+    c: Cursor,
+) -> Plan
+    requires { ⌜ (count ≤ 48) × (c .slot ≤ 4800) ⌝ }
     requires { ⌜ c .running ≡ 0 ⌝ }
-    ensures { λ r. ⌜ PlanOk inSlot p sent c r ⌝ }
+    ensures { λ r. ⌜ ((starts : List ℕ) → PlanOk inSlot (tableOf count (now (addresses .entry)) starts (now (lengths .entry)) (now (frames .entry))) (now (sent .entry)) c r) ⌝ }
 {
-    let k = find_page(p, sent, c);
+    let k = find_page(count, frames, sent, c.slot);
     let mut n = c;
     n.slot = c.slot + 1;
     n.synced = 0;
     n.message = 0;
-    if index(p.count) <= k {
+    if index(count) <= k {
         return keep(Output::Fixed(Codeword::IDLE.word()), 0, sent, n);
     }
     n.page = k as u32;
     n.word = 0;
-    n.running = flag(0 < p.lengths[k]);
+    n.running = flag(0 < lengths[k]);
     Plan {
-        output: Output::Fixed(p.addresses[k]),
+        output: Output::Fixed(addresses[k]),
         at: 0,
         page: k,
         mark: 1,
@@ -277,20 +292,28 @@ fn plan_open(p: PageTable, sent: [u8; 48], c: Cursor) -> Plan
 }
 
 // A slot: the running message's next codeword, or what an open slot holds.
-fn plan_slot(p: PageTable, sent: [u8; 48], c: Cursor) -> Plan
-    requires { ⌜ declined p c ≡ false ⌝ }
-    ensures { λ r. ⌜ PlanOk inSlot p sent c r ⌝ }
+fn plan_slot<'a>(
+    count: u32,
+    addresses: &'a [u32; 48],
+    starts: &'a [u16; 48],
+    lengths: &'a [u16; 48],
+    frames: &'a [u8; 48],
+    sent: &'a [u8; 48],
+    c: Cursor,
+) -> Plan
+    requires { ⌜ declined (tableOf count (now addresses) (now starts) (now lengths) (now frames)) c ≡ false ⌝ }
+    ensures { λ r. ⌜ PlanOk inSlot (tableOf count (now (addresses .entry)) (now (starts .entry)) (now (lengths .entry)) (now (frames .entry))) (now (sent .entry)) c r ⌝ }
 {
     if c.running == 0 {
-        return plan_open(p, sent, c);
+        return plan_open(count, addresses, lengths, frames, sent, c);
     }
     let k = index(c.page);
-    let at = index(wide16(p.starts[k]) + c.word);
+    let at = index(wide16(starts[k]) + c.word);
     let mut n = c;
     n.slot = c.slot + 1;
     n.synced = 0;
     n.word = c.word + 1;
-    n.running = flag(c.word + 1 < wide16(p.lengths[k]));
+    n.running = flag(c.word + 1 < wide16(lengths[k]));
     n.message = 1;
     keep(Output::Message, at, sent, n)
 }
@@ -306,53 +329,62 @@ fn sync_due(c: Cursor) -> bool
 }
 
 // Whether all is out and the last slot held no message codeword.
-fn is_finished(p: PageTable, sent: [u8; 48], c: Cursor) -> bool
-    requires { ⌜ declined p c ≡ false ⌝ }
-    ensures { λ r. ⌜ r ≡ finished p sent c ⌝ }
+fn is_finished(count: u32, sent: &[u8; 48], c: Cursor) -> bool
+    requires { ⌜ count ≤ 48 ⌝ }
+    ensures { λ r. ⌜ ((p : PageTable) → p .count ≡ count → declined p c ≡ false → r ≡ finished p (now (sent .entry)) c) ⌝ }
 {
     if c.message != 0 {
         return false;
     }
-    all_out(p, sent, c)
+    if c.running != 0 {
+        return false;
+    }
+    all_sent(count, sent)
 }
 
-// Before a batch the end or sync; then its slots.
-fn plan_batch(p: PageTable, sent: [u8; 48], c: Cursor) -> Plan
-    requires { ⌜ declined p c ≡ false ⌝ }
-    ensures { λ r. ⌜ PlanOk inBatch p sent c r ⌝ }
+// The plan of a step, for every state: number 11, a word of the preamble, and then before a batch the end or sync, and its slots.
+fn plan_of<'a>(
+    count: u32,
+    addresses: &'a [u32; 48],
+    starts: &'a [u16; 48],
+    lengths: &'a [u16; 48],
+    frames: &'a [u8; 48],
+    sent: &'a [u8; 48],
+    c: Cursor,
+) -> Plan
+    ensures { λ r. ⌜ PlanOk stepOf (tableOf count (now (addresses .entry)) (now (starts .entry)) (now (lengths .entry)) (now (frames .entry))) (now (sent .entry)) c r ⌝ }
 {
-    if !sync_due(c) {
-        return plan_slot(p, sent, c);
-    }
-    if is_finished(p, sent, c) {
-        return keep(Output::End, 0, sent, c);
+    if is_declined(count, starts, lengths, frames, c) {
+        return keep(Output::Decline, 0, sent, c);
     }
     let mut n = c;
+    if c.preamble != 0 {
+        n.preamble = c.preamble - 1;
+        return keep(Output::Fixed(0xAAAA_AAAA), 0, sent, n);
+    }
+    if !sync_due(c) {
+        return plan_slot(count, addresses, starts, lengths, frames, sent, c);
+    }
+    if is_finished(count, sent, c) {
+        return keep(Output::End, 0, sent, c);
+    }
     n.synced = 1;
     keep(Output::Fixed(Codeword::SYNC.word()), 0, sent, n)
 }
 
-// The preamble; then the batches.
-fn plan_sound(p: PageTable, sent: [u8; 48], c: Cursor) -> Plan
-    requires { ⌜ declined p c ≡ false ⌝ }
-    ensures { λ r. ⌜ PlanOk fromSound p sent c r ⌝ }
-{
-    if c.preamble == 0 {
-        return plan_batch(p, sent, c);
-    }
-    let mut n = c;
-    n.preamble = c.preamble - 1;
-    keep(Output::Fixed(0xAAAA_AAAA), 0, sent, n)
-}
-
-// The plan of a step, for every state.
+// The plan of a step of a table and flags that were copied out.
 fn plan_step(p: PageTable, sent: [u8; 48], c: Cursor) -> Plan
     ensures { λ r. ⌜ PlanOk stepOf p sent c r ⌝ }
 {
-    if is_declined(p, c) {
-        return keep(Output::Decline, 0, sent, c);
-    }
-    plan_sound(p, sent, c)
+    plan_of(
+        p.count,
+        &p.addresses,
+        &p.starts,
+        &p.lengths,
+        &p.frames,
+        &sent,
+        c,
+    )
 }
 
 // The answer, from the plan and the message word that it names.

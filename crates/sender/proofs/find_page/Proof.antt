@@ -1,21 +1,25 @@
 -- `sender::find_page` meets its contract. The invariant: none of the pages passed may start. Assumes nothing.
 use Prim.Native.Nat.{ℕ, _≤_, _<_, _-_}
 use mathlib.Core.Path.{_≡_, sym, _∙_}
-use mathlib.Core.Bool.{false}
+use mathlib.Core.Bool.{Bool, false}
+use mathlib.Core.List.{List}
 use native.Mathlib.Omega.{arith}
 use lib.ListN.{getD}
 use borrow.Author.Count.{below-more}
+use Rattle.base.proofs.SearchLaws.{least-only}
 use Rattle.placement.specs.Placement.{mayStart}
-use Rattle.sender.proofs.Planned.{found-is}
 use borrow.Author.Needs.{needs}
 use Rattle.sender.proofs.find_page.Statement.{statement}
 use Rattle.sender.proofs.find_page.Tie as tie
 
+abbrev may : List ℕ → List ℕ → ℕ → ℕ → Bool
+may frames sent slot k = mayStart (getD sent k 0) (getD frames k 0) slot
+
 abbrev Inv-loop : tie.InvT-loop
-Inv-loop p sent n slot i₀ i = (i ≤ n) × ((k : ℕ) → k < i → mayStart (getD sent k 0) (getD (p .frames) k 0) slot ≡ false)
+Inv-loop count frames sent slot n i₀ i = (i ≤ n) × ((k : ℕ) → k < i → may frames sent slot k ≡ false)
 
 abbrev μ-loop : tie.MeasureT-loop
-μ-loop p sent n slot i₀ i = n - i
+μ-loop count frames sent slot n i₀ i = n - i
 
 index-requires : tie.Need-index-requires Inv-loop μ-loop
 index-requires c κs = search needs
@@ -23,11 +27,11 @@ index-requires c κs = search needs
 loop-holds : tie.Need-loop-holds Inv-loop μ-loop
 loop-holds c = (omega arith, λ k l. absurd (omega arith))
 
-array-read-may-start : tie.Need-array-read-may-start Inv-loop μ-loop
-array-read-may-start c = search needs
-
 element-copy-out-may-start : tie.Need-element-copy-out-may-start Inv-loop μ-loop
 element-copy-out-may-start c = search needs
+
+element-copy-out-may-start-2 : tie.Need-element-copy-out-may-start-2 Inv-loop μ-loop
+element-copy-out-may-start-2 c = search needs
 
 may-start-requires : tie.Need-may-start-requires Inv-loop μ-loop
 may-start-requires c κs = search needs
@@ -40,22 +44,21 @@ loop-less c = search needs
 
 loop-again : tie.Need-loop-again Inv-loop μ-loop
 loop-again c =
-    let a = c .before .before .before .before .before .before .args in (
-      omega arith,
-      below-more (λ k. mayStart (getD (a .t2) k 0) (getD (a .t1 .frames) k 0) (a .c .slot) ≡ false) (c .before .before .before .before .loop .i) (c .before .before .before .before .loop .inv .1)
-          (sym (c .before .may-start .ensures) ∙ c .if1 .left),
-    )
+    let a = c .before .before .before .before .before .before .before .args in
+    let l = c .before .before .before .before .before .loop in
+    (omega arith, below-more (λ k. may (a .frames .now) (a .sent .now) (a .slot) k ≡ false) (l .i) (l .inv .1) (sym (c .before .may-start .ensures) ∙ c .if1 .left))
 
 returns : tie.Need-returns Inv-loop μ-loop
 returns c =
     let a = c .before .before .before .args in
-    found-is (a .t1) (a .t2) (a .c) (c .before .loop .i) (omega arith) (c .before .loop .inv .1) (λ l. absurd (omega arith))
+    let l = c .before .loop in
+    sym (least-only (may (a .frames .now) (a .sent .now) (a .slot)) (a .count) (l .i) (record { within = omega arith; before = l .inv .1; here = λ m. absurd (omega arith) }))
 
 returns-2 : tie.Need-returns-2 Inv-loop μ-loop
 returns-2 c =
-    let a = c .before .before .before .before .before .before .args in
-    let l = c .before .before .before .before .loop in
-    found-is (a .t1) (a .t2) (a .c) (l .i) (omega arith) (l .inv .1) (λ _. sym (c .before .may-start .ensures) ∙ c .if1 .taken)
+    let a = c .before .before .before .before .before .before .before .args in
+    let l = c .before .before .before .before .before .loop in
+    sym (least-only (may (a .frames .now) (a .sent .now) (a .slot)) (a .count) (l .i) (record { within = omega arith; before = l .inv .1; here = λ _. sym (c .before .may-start .ensures) ∙ c .if1 .taken }))
 
 pub find-page-spec : {M : Type 1} → statement M
 find-page-spec =
@@ -65,8 +68,8 @@ find-page-spec =
     μ-loop
     index-requires
     loop-holds
-    array-read-may-start
     element-copy-out-may-start
+    element-copy-out-may-start-2
     may-start-requires
     add-i
     loop-less

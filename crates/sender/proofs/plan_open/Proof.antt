@@ -1,6 +1,8 @@
 -- `sender::plan_open` meets its contract. Assumes nothing.
+use mathlib.Core.Path.{_∙_}
 use native.Mathlib.Omega.{arith}
-use Rattle.sender.proofs.Planned.{idle-ok, address-ok}
+use Rattle.sender.specs.Plan.{tableOf}
+use Rattle.sender.proofs.Planned.{found-is, idle-ok, address-ok}
 use borrow.Author.Needs.{needs}
 use Rattle.sender.proofs.plan_open.Statement.{statement}
 use Rattle.sender.proofs.plan_open.Tie as tie
@@ -21,10 +23,12 @@ keep-requires : tie.Need-keep-requires
 keep-requires c κs = search needs
 
 returns : tie.Need-returns
-returns c =
+returns c = λ starts.
     let b = c .before .before .before .before .before .before in
     let a = b .args in
-    idle-ok (a .t1) (a .sent) (a .c) (b .pre .1) (omega (arith, c .before .before .before .before .before .find-page .ensures, c .before .before .before .index .ensures)) (c .before .word .ensures) (c .keep .ensures)
+    let p = (tableOf (a .count) (a .addresses .now) starts (a .lengths .now) (a .frames .now)) in
+    let e = c .before .before .before .before .before .find-page .ensures ∙ found-is p (a .sent .now) (a .c) in
+    idle-ok p (a .sent .now) (a .c) (b .pre .1) (omega (arith, c .before .before .before .index .ensures)) (c .before .word .ensures) (c .keep .ensures)
 
 cast-n : tie.Need-cast-n
 cast-n c = search needs
@@ -38,18 +42,19 @@ element-copy-out-flag c = search needs
 flag-requires : tie.Need-flag-requires
 flag-requires c κs = search needs
 
-mul-t8 : tie.Need-mul-t8
-mul-t8 c = search needs
+mul-t9 : tie.Need-mul-t9
+mul-t9 c = search needs
 
-element-copy-out-t9 : tie.Need-element-copy-out-t9
-element-copy-out-t9 c = search needs
+element-copy-out-t19 : tie.Need-element-copy-out-t19
+element-copy-out-t19 c = search needs
 
 returns-2 : tie.Need-returns-2
-returns-2 c =
+returns-2 c = λ starts.
     let b = c .before .before .before .before .before .before .before in
     let a = b .args in
+    let p = (tableOf (a .count) (a .addresses .now) starts (a .lengths .now) (a .frames .now)) in
     let k = c .before .before .before .before .before .before .find-page in
-    address-ok (a .t1) (a .sent) (a .c) (b .pre .1) (b .pre .0 .0) (k .result) (c .before .flag .result) (k .ensures) (omega (arith, c .before .before .before .before .index .ensures)) (c .before .flag .ensures)
+    address-ok p (a .sent .now) (a .c) (b .pre .1) (b .pre .0 .0) (k .result) (c .before .flag .result) (k .ensures ∙ found-is p (a .sent .now) (a .c)) (omega (arith, c .before .before .before .before .index .ensures)) (c .before .flag .ensures)
 
 pub plan-open-spec : {M : Type 1} → statement M
 plan-open-spec =
@@ -65,6 +70,6 @@ plan-open-spec =
     mul-flag
     element-copy-out-flag
     flag-requires
-    mul-t8
-    element-copy-out-t9
+    mul-t9
+    element-copy-out-t19
     returns-2)

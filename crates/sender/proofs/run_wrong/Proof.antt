@@ -4,18 +4,15 @@ use Prim.Native.Nat.{ℕ}
 use mathlib.Core.Path.{ap, _∙_}
 use lib.Dec.{leb}
 use borrow.Author.Tests.{le-leb, lt-leb}
-use Rattle.sender.specs.Step.{runWrong}
 use Rattle.sender.proofs.Search.{set-flag, clear-flag}
 use borrow.Author.Needs.{needs}
 use Rattle.sender.proofs.run_wrong.Statement.{statement}
 use Rattle.sender.proofs.run_wrong.Tie as tie
 
 returns : tie.Need-returns
-unfolding runWrong
 returns c = simp (clear-flag _ (c .if1 .taken))
 
 returns-2 : tie.Need-returns-2
-unfolding runWrong
 returns-2 c = simp (set-flag _ (c .before .before .if1 .left), le-leb _ _ (c .if2 .taken))
 
 index-requires : tie.Need-index-requires
@@ -31,10 +28,9 @@ wide16-requires : tie.Need-wide16-requires
 wide16-requires c κs = search needs
 
 returns-3 : tie.Need-returns-3
-unfolding runWrong
 returns-3 c =
     let a = c .before .before .before .before .before .before .before .before .args in
-    ap (λ (x : ℕ). leb x (a .c .word)) (c .before .wide16 .ensures ∙ ap (λ (k : ℕ). getD (a .t1 .lengths) k 0) (c .before .before .before .index .ensures))
+    ap (λ (x : ℕ). leb x (a .c .word)) (c .before .wide16 .ensures ∙ ap (λ (k : ℕ). getD (a .lengths .now) k 0) (c .before .before .before .index .ensures))
     ∙ simp (set-flag _ (c .before .before .before .before .before .before .if1 .left), lt-leb _ _ (c .before .before .before .before .if2 .left))
 
 pub run-wrong-spec : {M : Type 1} → statement M
