@@ -4,3 +4,4 @@ pub mod Contents
 pub mod Placed
 pub mod Steps
 pub mod Examples
+pub mod Skips

@@ -1,3 +1,4 @@
 pub mod Placement
 pub mod Promise
 pub mod Examples
+pub mod Found

@@ -1,0 +1,100 @@
+-- Where the search for a frame's next page starts. The code keeps a page number for each frame, `next`, and every page of the frame
+-- below it is sent: a search from there finds the same page as one from page 0. Assumes nothing.
+use mathlib.Core.Path.{_≡_, refl, sym, _∙_}
+use mathlib.Core.Bool.{Bool, true, false}
+use mathlib.Core.Logic.{⊎-elim}
+use mathlib.Core.List.{List}
+use Prim.Native.Nat.{ℕ, zero, suc, _+_, _≤_, _<_}
+use native.Mathlib.Omega.{arith}
+use lib.ListN.{length, getD, set, replicate, length-set}
+use lib.Seq.{getD-set-same, getD-set-other}
+use lib.Dec.{eqb}
+use borrow.Author.Tests.{eqb-true, eqb-false}
+use Rattle.base.proofs.SearchLaws.{le-or-lt}
+use Rattle.placement.specs.Placement.{Job, jobOf, Framed, frameOf, mayStart, ready, stateAt}
+use Rattle.placement.specs.Found.{Found}
+use Rattle.placement.proofs.Turn.{ready-true, ready-false}
+use Rattle.placement.proofs.Steps.{At, Next, Passed, asked, marks-length, at-starts, at-rests}
+
+-- there is a number for each frame, none beyond the pages, and each page below its frame's number is sent
+pub record Skips (job : Job) (marks next : List ℕ) : Type 0 where
+  pub whole : length next ≡ 8
+  pub within : (f : ℕ) → getD next f 0 ≤ job .pages
+  pub sent : (k : ℕ) → k < getD next (job .frame k) 0 → getD marks k 0 ≡ 0 → ⊥
+
+-- at first every number is 0, so that nothing is skipped
+zeros : (n f : ℕ) → getD {A = ℕ} (replicate n 0) f 0 ≡ 0
+zeros zero f = refl
+zeros (suc n) zero = refl
+zeros (suc n) (suc f) = zeros n f
+
+pub skips-start : (job : Job) (marks : List ℕ) → Skips job marks (replicate 8 0)
+skips-start job marks =
+    record {
+      whole = refl;
+      within = λ f. omega (arith, zeros 8 f);
+      sent = λ k l u. omega (arith, zeros 8 (job .frame k));
+    }
+
+-- an element after a store: the new one, or the old one elsewhere
+at-set : (P : ℕ → Type 0) (l : List ℕ) (i v j : ℕ) → i < length l → (j ≡ i → P v) → ((j ≡ i → ⊥) → P (getD l j 0)) → P (getD (set l i v) j 0)
+at-set P l i v j h same other = go (eqb j i) refl
+  where
+    go : (b : Bool) → eqb j i ≡ b → P (getD (set l i v) j 0)
+    go true e = let q = eqb-true j i e in rw (q, getD-set-same l i v 0 h) (same q)
+    go false e = let q = eqb-false j i e in rw (getD-set-other l i j v 0 q) (other q)
+
+-- a page that starts is one more that is sent
+skips-more : (job : Job) (marks next : List ℕ) (p s : ℕ) → p < length marks → Skips job marks next → Skips job (set marks p (s + 1)) next
+skips-more job marks next p s h a =
+    record {
+      whole = a .whole;
+      within = a .within;
+      sent = λ k l. at-set (λ (m : ℕ). m ≡ 0 → ⊥) marks p (s + 1) k h (λ q u. omega arith) (λ q. a .sent k l);
+    }
+
+module _ (frames words : List ℕ) where
+  -- the job, as the code has it
+  abbrev job : Job
+  job = jobOf frames words
+
+  -- in slot s the search has found page r, from its frame's number on
+  module _ (framed : Framed job) (s : ℕ) (marks : List ℕ) (left sent : ℕ) (a : At job s marks left sent) (next : List ℕ) (from : Skips job marks next)
+      (r : ℕ) (found : Found frames marks s (getD next (frameOf s) 0) r) where
+    asks : (k : ℕ) → mayStart (getD marks k 0) (getD frames k 0) s ≡ ready job s (stateAt job s) k
+    asks = asked job framed s marks left sent a
+
+    -- no page below it may start
+    passed : Passed job s (stateAt job s) r
+    passed k l = ⊎-elim (λ h. sym (asks k) ∙ found .before k h l) (λ h. below h _ refl) (le-or-lt (getD next (frameOf s) 0) k)
+      where
+        below : k < getD next (frameOf s) 0 → (b : Bool) → ready job s (stateAt job s) k ≡ b → ready job s (stateAt job s) k ≡ false
+        below h true e =
+            let m = ready-true job s (stateAt job s) k e in
+            absurd (from .sent k (rw (m .1) h) (rw (a .marked) (m .0)))
+        below h false e = e
+
+    -- the next search in this frame may start there
+    skips-found : Skips job marks (set next (frameOf s) r)
+    skips-found =
+        record {
+          whole = length-set next (frameOf s) r ∙ from .whole;
+          within = λ f. at-set (λ (x : ℕ). x ≤ job .pages) next (frameOf s) r f here (λ q. found .within) (λ q. from .within f);
+          sent = λ k. at-set (λ (x : ℕ). k < x → getD marks k 0 ≡ 0 → ⊥) next (frameOf s) r (job .frame k) here
+              (λ q l u. ready-false job s (stateAt job s) k (passed k l) (rw (a .marked) at u, q))
+              (λ q. from .sent k);
+        }
+      where
+        here : frameOf s < length next
+        here = omega (arith, from .whole)
+
+    -- so the page that was found starts, or where there is none, the slot is idle
+    pub found-starts : left ≡ 0 → r < job .pages
+        → Next job s (set marks r (s + 1)) (job .words r) (sent + 1) false × Skips job (set marks r (s + 1)) (set next (frameOf s) r)
+    found-starts z l = (
+      at-starts job framed s marks left sent a r z l (sym (asks r) ∙ found .here l) passed,
+      skips-more job marks (set next (frameOf s) r) r s (omega (arith, marks-length job framed s marks left sent a)) skips-found,
+    )
+
+    pub found-rests : left ≡ 0 → job .pages ≤ r → Next job s marks left sent false × Skips job marks (set next (frameOf s) r)
+    found-rests z l = (at-rests job framed s marks left sent a z (λ k h. passed k (omega arith)), skips-found)
