@@ -124,3 +124,13 @@ tab-list g d (b ∷ s) zero h = absurd (not-suc-le-zero h)
 tab-list g d (b ∷ s) (suc n) h =
     let e : suc n - suc (length s) ≡ n - length s = omega arith in
     rw e (ap₂ _∷_ refl (tab-list g d s n (le-of-suc-le-suc h)))
+
+-- a loop that fills a whole slice or array by index
+module _ (f : ℕ → ℕ) (n : ℕ) (old : List ℕ) (size : length old ≡ n) (i : ℕ) {l : List ℕ} (e : l ≡ filled old (tab f n) i) where
+  -- a turn of the loop: place i gets f i
+  pub tab-turn : {v : ℕ} → i < n → v ≡ f i → set l i v ≡ filled old (tab f n) (i + 1)
+  tab-turn h q = filled-turn old (tab f n) i e (omega arith) (omega (arith, tab-length f n)) (q ∙ sym (tab-at f n i 0 h))
+
+  -- its end
+  pub tab-full : i ≡ n → l ≡ tab f n
+  tab-full q = e ∙ rw (q ∙ sym (tab-length f n), filled-over old (tab f n)) (over-all old (tab f n) (omega (arith, tab-length f n)))

@@ -5,8 +5,7 @@ use native.Mathlib.Omega.{arith}
 use borrow.Author.Needs.{needs}
 use lib.ListN.{getD}
 use Rattle.base.specs.Lists.{tab}
-use Rattle.base.proofs.ListLaws.{filled}
-use Rattle.transmission.proofs.Filling.{tab-turn, tab-full}
+use Rattle.base.proofs.ListLaws.{filled, tab-turn, tab-full}
 use Rattle.transmission.proofs.frames_of.Statement.{statement}
 use Rattle.transmission.proofs.frames_of.Tie as tie
 

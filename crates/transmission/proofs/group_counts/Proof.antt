@@ -5,8 +5,7 @@ use native.Mathlib.Omega.{arith}
 use borrow.Author.Needs.{needs}
 use lib.ListN.{getD}
 use Rattle.base.specs.Lists.{tab}
-use Rattle.base.proofs.ListLaws.{filled}
-use Rattle.transmission.proofs.Filling.{tab-turn, tab-full}
+use Rattle.base.proofs.ListLaws.{filled, tab-turn, tab-full}
 use Rattle.text.specs.Coding.{groupsOf}
 use Rattle.text.specs.declared.Coding.{Coding}
 use Rattle.text.specs.declared.Coding.the-variants.{Numeric, Alphanumeric}

@@ -5,8 +5,7 @@ use native.Mathlib.Omega.{arith}
 use borrow.Author.Needs.{needs}
 use lib.ListN.{length, length-set}
 use Rattle.base.specs.Lists.{tab}
-use Rattle.base.proofs.ListLaws.{filled}
-use Rattle.transmission.proofs.Filling.{tab-turn, tab-full}
+use Rattle.base.proofs.ListLaws.{filled, tab-turn, tab-full}
 use Rattle.transmission.specs.Writing.{blankAt}
 use Rattle.transmission.proofs.write_blank.Statement.{statement}
 use Rattle.transmission.proofs.write_blank.Tie as tie
