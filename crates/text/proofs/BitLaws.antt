@@ -76,6 +76,35 @@ bits-low bit at (suc n) acc =
     let f : acc * 2 * 2 ^ n ≡ acc * 2 ^ suc n = rw (pow-succ' 2 n) (mul-assoc acc 2 (2 ^ n)) in
     rw e (bits-low bit (at + 1) n (acc * 2 + bit at) ∙ omega arith)
 
+-- what stands before them
+pub bits-behind : (bit : ℕ → ℕ) (at n acc : ℕ) → bitsFrom bit at n acc ≡ acc * 2 ^ n + bitsFrom bit at n 0
+bits-behind bit at n acc = omega (arith, bits-low bit at n acc, bits-low bit at n 0)
+
+-- n bits, and m behind them
+pub bits-split : (bit : ℕ → ℕ) (at n m acc : ℕ) → bitsFrom bit at (n + m) acc ≡ bitsFrom bit (at + n) m (bitsFrom bit at n acc)
+unfolding bitsFrom
+bits-split bit at zero m acc = let e : 0 + m ≡ m = omega arith in let z : at + 0 ≡ at = omega arith in rw (e, z)
+bits-split bit at (suc n) m acc =
+    let e : suc n + m ≡ suc (n + m) = omega arith in
+    let i : at + 1 + n ≡ at + suc n = omega arith in
+    rw e (bits-split bit (at + 1) n m (acc * 2 + bit at) ∙ ap (λ (x : ℕ). bitsFrom bit x m (bitsFrom bit (at + 1) n (acc * 2 + bit at))) i)
+
+pub bits-add : (bit : ℕ → ℕ) (at n m : ℕ) → bitsFrom bit at (n + m) 0 ≡ bitsFrom bit at n 0 * 2 ^ m + bitsFrom bit (at + n) m 0
+bits-add bit at n m = bits-split bit at n m 0 ∙ bits-behind bit (at + n) m (bitsFrom bit at n 0)
+
+pub bits-same : (f g : ℕ → ℕ) (i j n acc : ℕ) → ((p : ℕ) → p < n → f (i + p) ≡ g (j + p)) → bitsFrom f i n acc ≡ bitsFrom g j n acc
+unfolding bitsFrom
+bits-same f g i j zero acc h = refl
+bits-same f g i j (suc n) acc h =
+    let a : i + 0 ≡ i = omega arith in
+    let b : j + 0 ≡ j = omega arith in
+    let e : f i ≡ g j = rw (a, b) at (h 0 (omega arith)) in
+    rw e (bits-same f g (i + 1) (j + 1) n (acc * 2 + g j)
+    (λ p l. let a : i + 1 + p ≡ i + (p + 1) = omega arith in let b : j + 1 + p ≡ j + (p + 1) = omega arith in rw (a, b) (h (p + 1) (omega arith))))
+
+pub bits-small : (bit : ℕ → ℕ) → ((p : ℕ) → bit p ≤ 1) → (at n : ℕ) → bitsFrom bit at n 0 < 2 ^ n
+bits-small bit small at n = omega (arith, bits-low bit at n 0, low-lt (λ b. bit (at + (n - (b + 1)))) (λ b. small (at + (n - (b + 1)))) n)
+
 -- bits turned round
 pub turned-low : (n x : ℕ) → turnedOf n x ≡ fromLow (λ b. x / 2 ^ (n - (b + 1)) % 2) n
 unfolding turnedOf

@@ -39,7 +39,7 @@ group-bit c bytes g j h =
 pub group-small : (c : Coding) (bytes : List ℕ) (g : ℕ) → groupOf c bytes g < 2 ^ 20
 group-small c bytes g = rw group-low (low-lt (back c bytes g) (λ b. bit-small c bytes (20 * g + (20 - (b + 1)))) 20)
 
-char-bit : (c : Coding) (bytes : List ℕ) (i b : ℕ) → b < widthOf c → bitOf c bytes (widthOf c * i + b) ≡ valueOf c (getD bytes i (fillOf c)) / 2 ^ b % 2
+pub char-bit : (c : Coding) (bytes : List ℕ) (i b : ℕ) → b < widthOf c → bitOf c bytes (widthOf c * i + b) ≡ valueOf c (getD bytes i (fillOf c)) / 2 ^ b % 2
 unfolding bitOf
 char-bit Numeric bytes i b h =
     let q : (4 * i + b) / 4 ≡ i = omega arith in

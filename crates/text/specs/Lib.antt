@@ -1,4 +1,5 @@
 pub mod Numeric
 pub mod Coding
+pub mod Packing
 pub mod Heard
 pub mod Back

@@ -3,10 +3,12 @@
 ghost use mathlib.Core.Path.{_≡_};
 ghost use Prim.Native.Nat.{_+_, _*_, _%_, _^_, _≤_};
 ghost use lib.ListN.{length, getD};
-ghost use Rattle.base.specs.Hex.{bytesOf};
+ghost use Rattle.base.specs.Hex.{hexOf, bytesOf};
 ghost use Rattle.base.specs.Leading.{leading};
+ghost use Rattle.base.specs.Lists.{tab};
 ghost use Rattle.text.specs.Numeric.{numericOf, numericByte};
 ghost use Rattle.text.specs.Coding.{isNumeric, charOk, endsInSpace, widthOf, fillOf, valueOf, turnedOf, groupOf, groupsOf};
+ghost use Rattle.text.specs.Packing.{Few, Refilled};
 ghost use Rattle.text.specs.Heard.{charIn, charHeard, ends, heardText};
 ghost use Rattle.text.specs.declared.Coding.the-variants.{Numeric, Alphanumeric};
 
@@ -176,6 +178,119 @@ pub fn group(c: Coding, text: &[u8], g: u16) -> u32
         k += 1;
     }
     turned(window >> offset, 20)
+}
+
+// The value of a hexadecimal digit with its four bits turned round; 0 for any other byte. One arm a digit: a table.
+fn turned_digit(b: u8) -> u32
+    ensures { λ r. ⌜ r ≡ turnedOf 4 (hexOf b) ⌝ }
+{
+    match b {
+        b'0' => 0,
+        b'1' => 8,
+        b'2' => 4,
+        b'3' => 12,
+        b'4' => 2,
+        b'5' => 10,
+        b'6' => 6,
+        b'7' => 14,
+        b'8' => 1,
+        b'9' => 9,
+        b'A' => 5,
+        b'B' => 13,
+        b'C' => 3,
+        b'D' => 11,
+        b'E' => 7,
+        b'F' => 15,
+        _ => 0,
+    }
+}
+
+// Table III from the byte to the value with its four bits turned round; 0 for any other byte.
+fn turned_numeric(b: u8) -> u32
+    ensures { λ r. ⌜ r ≡ turnedOf 4 (valueOf Numeric b) ⌝ }
+{
+    match b {
+        b'0' => 0,
+        b'1' => 8,
+        b'2' => 4,
+        b'3' => 12,
+        b'4' => 2,
+        b'5' => 10,
+        b'6' => 6,
+        b'7' => 14,
+        b'8' => 1,
+        b'9' => 9,
+        b'U' => 13,
+        b' ' => 3,
+        b'-' => 11,
+        b']' => 7,
+        b'[' => 15,
+        _ => 0,
+    }
+}
+
+// The bits of the character at index k, the first to be sent on top; those of fill behind the last.
+fn char_bits(c: Coding, text: &[u8], k: usize) -> u32
+    ensures { λ r. ⌜ r ≡ turnedOf (widthOf c) (valueOf c (getD (bytesOf (now (text .entry))) k (fillOf c))) ⌝ }
+{
+    match c {
+        Coding::Numeric => turned_numeric(base::pair_byte(text, k, b' ')),
+        Coding::Alphanumeric => {
+            if text.len() / 2 <= k {
+                return 0;
+            }
+            turned_digit(text[2 * k + 1]) * 8 + turned_digit(text[2 * k]) / 2
+        }
+    }
+}
+
+// Bits on their way into groups: the low `have` bits of the window, the first on top, and the index of the next character.
+struct Bits {
+    window: u64,
+    have: usize,
+    next: usize,
+}
+
+// Characters behind the bits until there are 20.
+fn refill(c: Coding, text: &[u8], b: Bits) -> Bits
+    requires { ⌜ Few b ⌝ }
+    ensures { λ r. ⌜ Refilled c (bytesOf (now (text .entry))) b r ⌝ }
+{
+    let w = width(c);
+    let mut window = b.window;
+    let mut have = b.have;
+    let mut k = b.next;
+    while have < 20 {
+        window = (window << w) + char_bits(c, text, k) as u64;
+        have += w;
+        k += 1;
+    }
+    Bits {
+        window: window,
+        have: have,
+        next: k,
+    }
+}
+
+// Fills a slice with a text's first groups, each with its first bit on top. One pass: each character is read once.
+pub fn write_groups(c: Coding, text: &[u8], groups: &mut [u32])
+    ensures { λ _. ⌜ now (groups .exit) ≡ tab (groupOf c (bytesOf (now (text .entry)))) (length (now (groups .entry))) ⌝ }
+{
+    let count = groups.len();
+    let mut b = Bits {
+        window: 0,
+        have: 0,
+        next: 0,
+    };
+    let mut g = 0;
+    while g < count {
+        b = refill(c, text, b);
+        let rest = b.have - 20;
+        groups[g] = (b.window >> rest) as u32;
+        b.window = b.window % (1 << rest);
+        b.have = rest;
+        g += 1;
+    }
 }
 
 // How many groups so many characters take.
