@@ -8,12 +8,12 @@ use native.Mathlib.Omega.{arith}
 use native.Mathlib.Numerals.{add-one}
 use lib.ListN.{length, getD, set, length-set}
 use lib.Seq.{getD-set-same, getD-set-other}
-use Rattle.codeword.specs.Code.{codeword, messageBits}
-use Rattle.text.specs.Coding.{groupOf}
-use Rattle.text.proofs.GroupLaws.{groups-length, groups-at}
-use Rattle.job.specs.Line.{codingOf}
+use Rattle.base.specs.Lists.{tab}
+use Rattle.text.specs.Coding.{groupOf, groupsIn}
+use Rattle.text.proofs.GroupLaws.{groups-length}
+use Rattle.job.specs.Line.{codingOf, functionOf}
 use Rattle.transmission.specs.Sending.{Sending, sendingFrom}
-use Rattle.transmission.specs.Transmission.{addressOf}
+use Rattle.transmission.specs.Transmission.{addressOf, messageOf}
 use Rattle.transmission.specs.Transmitted.{slotIndex}
 use Rattle.transmission.specs.Writing.{codewordAt, begun}
 
@@ -53,13 +53,13 @@ module _ (x : Sending) (s : ℕ) (words : List ℕ) where
   begun-first p q = let e : s + 0 ≡ s = omega arith in rw (p, q, e)
 
   -- message codeword j
-  pub begun-more : (j : ℕ) {l : List ℕ} {k v : ℕ} → l ≡ begun x s (suc j) words → k ≡ slotIndex (s + 1 + j) → v ≡ codewordAt x (suc j)
+  pub begun-more : (j : ℕ) {l : List ℕ} {k v : ℕ} → l ≡ begun x s (suc j) words → k ≡ slotIndex (s + 1 + j) → v ≡ messageOf x j
       → set l k v ≡ begun x s (suc (j + 1)) words
-  unfolding begun
+  unfolding begun codewordAt
   begun-more j e p q = let i : s + 1 + j ≡ s + suc j = omega arith in rw (e, p, q, i, add-one j, begun)
 
--- message codeword j of a text
-pub message-from : (identity kind : ℕ) (bytes : List ℕ) (j : ℕ) {b v : ℕ} → j < length (sendingFrom identity kind bytes .groups)
-    → b ≡ groupOf (codingOf kind) bytes j → v ≡ codeword (messageBits b) → v ≡ codewordAt (sendingFrom identity kind bytes) (suc j)
-unfolding codewordAt
-message-from identity kind bytes j h p q = rw (q, p, groups-at (codingOf kind) bytes j (omega (arith, groups-length (codingOf kind) bytes)))
+-- a page's sending, where its text's groups are told by index
+pub page-sending : (identity kind : ℕ) (bytes : List ℕ) (n : ℕ) {f : ℕ} {gs : List ℕ} → n ≡ length (sendingFrom identity kind bytes .groups)
+    → f ≡ functionOf kind → gs ≡ tab (groupOf (codingOf kind) bytes) n → _≡_ {A = Sending} (record { identity = identity; function = f; groups = gs }) (sendingFrom identity kind bytes)
+unfolding groupsIn
+page-sending identity kind bytes n e p q = rw (p, q, e, groups-length (codingOf kind) bytes)

@@ -123,6 +123,40 @@ fn slot_index(slot: u32) -> usize
     19 + 17 * (s / 16) + s % 16
 }
 
+// An address codeword at its slot, and a message codeword for each group directly behind.
+fn write_sending(identity: u32, function: u32, groups: &[u32], slot: u32, words: &mut [u32])
+    requires { ⌜ (length (now groups) ≤ 84) × (slot < 4800) ⌝ }
+    requires { ⌜ slotIndex (slot + length (now groups)) < length (now words) ⌝ }
+    ensures { λ _. ⌜ now (words .exit) ≡ withSending (record { identity = identity; function = function; groups = now (groups .entry) }) slot (now (words .entry)) ⌝ }
+{
+    words[slot_index(slot)] = Codeword::address(identity, function).word();
+    let count = groups.len() as u32;
+    let mut j = 0u32;
+    while j < count {
+        let bits = groups[j as usize];
+        words[slot_index(slot + 1 + j)] = Codeword::message(bits).word();
+        j += 1;
+    }
+}
+
+// A page's codewords from its slot on; the groups of its text fill a slice of just their number first.
+fn write_packed(
+    identity: u32,
+    kind: u8,
+    text: &[u8],
+    groups: &mut [u32],
+    slot: u32,
+    words: &mut [u32],
+)
+    requires { ⌜ length (now groups) ≡ length (sendingFrom identity kind (bytesOf (now text)) .groups) ⌝ }
+    requires { ⌜ (length (now groups) ≤ 84) × (slot < 4800) ⌝ }
+    requires { ⌜ slotIndex (slot + length (now groups)) < length (now words) ⌝ }
+    ensures { λ _. ⌜ now (words .exit) ≡ withSending (sendingFrom identity kind (bytesOf (now (text .entry)))) slot (now (words .entry)) ⌝ }
+{
+    text::write_groups(job::coding(kind), text, groups);
+    write_sending(identity, job::function(kind), groups, slot, words);
+}
+
 // A page's address codeword at its slot, and its message codewords directly behind.
 fn write_page(identity: u32, kind: u8, text: &[u8], groups: u32, slot: u32, words: &mut [u32])
     requires { ⌜ groups ≡ length (sendingFrom identity kind (bytesOf (now text)) .groups) ⌝ }
@@ -130,14 +164,9 @@ fn write_page(identity: u32, kind: u8, text: &[u8], groups: u32, slot: u32, word
     requires { ⌜ slotIndex (slot + groups) < length (now words) ⌝ }
     ensures { λ _. ⌜ now (words .exit) ≡ withSending (sendingFrom identity kind (bytesOf (now (text .entry)))) slot (now (words .entry)) ⌝ }
 {
-    let coding = job::coding(kind);
-    words[slot_index(slot)] = Codeword::address(identity, job::function(kind)).word();
-    let mut j = 0u32;
-    while j < groups {
-        let bits = text::group(coding, text, j as u16);
-        words[slot_index(slot + 1 + j)] = Codeword::message(bits).word();
-        j += 1;
-    }
+    let n = groups as usize;
+    let mut packed = [0u32; 84];
+    write_packed(identity, kind, text, &mut packed[..n], slot, words);
 }
 
 // The transmission of a job's n pages over a slice of just its length, by each page's number of groups and its slot.
