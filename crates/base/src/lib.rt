@@ -16,7 +16,7 @@ pub enum HexWord {
 
 // The value of an upper-case hexadecimal digit; 16 for any other byte. One arm a digit: a table, where two ranges would be branches
 // that no processor foresees.
-fn digit_value(b: u8) -> u8
+pub fn digit_value(b: u8) -> u8
     ensures { λ r. ⌜ r ≡ digitValue b ⌝ }
 {
     match b {

@@ -71,6 +71,10 @@ codingOf kind = cond (eqb kind 4) Numeric Alphanumeric
 unfoldable pub functionOf : ℕ → ℕ
 functionOf kind = cond (eqb kind 4) 0 (cond (eqb kind 5) 3 kind)
 
+-- whether a byte is foreign to the kind: outside its characters
+abbrev pub isForeign : ℕ → List ℕ → Bool
+isForeign kind bytes = ltb (leading (charOk (codingOf kind)) bytes) (length bytes)
+
 -- ---- the refusals, the lowest first
 
 -- kinds 0 to 3: a tone has no text (number 5)

@@ -1,16 +1,19 @@
 // Reads a job's page lines (document 01, "Page lines" and the table of refusals).
 ghost use mathlib.Core.Path.{_≡_};
+ghost use mathlib.Core.Bool.{cond};
 ghost use mathlib.Core.List.{[]};
 ghost use Prim.Native.Nat.{_*_, _≤_};
 ghost use lib.ListN.{length, take, drop};
 ghost use Rattle.base.specs.Hex.{bytesOf};
 ghost use Rattle.base.specs.Lines.{split};
 ghost use Rattle.job.specs.Refusal.{numberOf, jobNumber, jobPlace};
-ghost use Rattle.job.specs.Line.{isPairs, headFormed, tailFormed, wellFormed, isReserved, longestOf, codingOf, functionOf, tonePageOf, textPageOf, kindPageOf, pageOf, lineOf};
+ghost use Rattle.job.specs.Line.{isPairs, headFormed, tailFormed, isReserved, longestOf, codingOf, functionOf, isForeign, tonePageOf, textPageOf, kindPageOf, pageOf, lineOf};
 ghost use Rattle.job.specs.Pages.{pagesOf};
 ghost use Rattle.base.specs.Lists.{over};
 ghost use Rattle.job.specs.Print.{headOf, spaced, ending, printed, printingOf, written};
 ghost use Rattle.job.specs.Job.{judge, tableOf, answerWith, readingOf};
+ghost use Rattle.job.specs.declared.Refusal.the-variants.{Malformed};
+ghost use Rattle.job.specs.declared.LineAnswer.the-variants.{Faulty};
 use text::Coding;
 
 // Why a job is declined, in the order of the table. A text's length is wrong in one of three ways.
@@ -122,29 +125,6 @@ fn head_formed(line: &[u8]) -> bool
     base::is_hex(line[7])
 }
 
-// Whether what stands behind the kind is nothing, or a space and pairs.
-fn tail_formed(t: &[u8]) -> bool
-    ensures { λ r. ⌜ r ≡ tailFormed (now (t .entry)) ⌝ }
-{
-    if t.len() == 0 {
-        return true;
-    }
-    if t[0] != b' ' {
-        return false;
-    }
-    is_pairs(&t[1..])
-}
-
-// Whether a line, without its newline, has the form of a page line.
-fn well_formed(line: &[u8]) -> bool
-    ensures { λ r. ⌜ r ≡ wellFormed (now (line .entry)) ⌝ }
-{
-    if !head_formed(line) {
-        return false;
-    }
-    tail_formed(&line[8..])
-}
-
 // Whether an identity has the upper address value of idle or of sync.
 pub fn is_reserved(identity: u32) -> bool
     ensures { λ r. ⌜ r ≡ isReserved identity ⌝ }
@@ -200,8 +180,9 @@ fn judge_tone(identity: u32, kind: u8, text: &[u8]) -> LineAnswer
     }
 }
 
-// A page with a text, or the lowest of numbers 5 to 7.
-fn judge_text(identity: u32, kind: u8, text: &[u8]) -> LineAnswer
+// A page with a text, or the lowest of numbers 5 to 7. The caller has found whether a byte is foreign to the kind.
+fn judge_text(identity: u32, kind: u8, text: &[u8], foreign: bool) -> LineAnswer
+    requires { ⌜ foreign ≡ isForeign kind (bytesOf (now text)) ⌝ }
     ensures { λ r. ⌜ r ≡ textPageOf identity kind (bytesOf (now (text .entry))) ⌝ }
 {
     let n = text.len() / 2;
@@ -211,29 +192,30 @@ fn judge_text(identity: u32, kind: u8, text: &[u8]) -> LineAnswer
     if longest(kind) < n {
         return LineAnswer::Faulty(Refusal::TextTooLong);
     }
-    let c = coding(kind);
-    if text::char_run(c, text) < n {
+    if foreign {
         return LineAnswer::Faulty(Refusal::Character);
     }
-    if text::ends_in_space(c, text) {
+    if text::ends_in_space(coding(kind), text) {
         return LineAnswer::Faulty(Refusal::TrailingSpace);
     }
     LineAnswer::Good(identity, kind, n)
 }
 
 // The page by its kind, or the lowest of numbers 4 to 7.
-fn judge_kind(identity: u32, kind: u8, text: &[u8]) -> LineAnswer
+fn judge_kind(identity: u32, kind: u8, text: &[u8], foreign: bool) -> LineAnswer
+    requires { ⌜ foreign ≡ isForeign kind (bytesOf (now text)) ⌝ }
     ensures { λ r. ⌜ r ≡ kindPageOf identity kind (bytesOf (now (text .entry))) ⌝ }
 {
     match kind {
         0..=3 => judge_tone(identity, kind, text),
-        4 | 5 => judge_text(identity, kind, text),
+        4 | 5 => judge_text(identity, kind, text, foreign),
         _ => LineAnswer::Faulty(Refusal::UnknownKind),
     }
 }
 
 // The page of a well-formed line, or the lowest of numbers 2 to 7.
-fn judge_page(identity: u32, kind: u8, text: &[u8]) -> LineAnswer
+fn judge_page(identity: u32, kind: u8, text: &[u8], foreign: bool) -> LineAnswer
+    requires { ⌜ foreign ≡ isForeign kind (bytesOf (now text)) ⌝ }
     ensures { λ r. ⌜ r ≡ pageOf identity kind (bytesOf (now (text .entry))) ⌝ }
 {
     if 0x1FFFFF < identity {
@@ -242,23 +224,46 @@ fn judge_page(identity: u32, kind: u8, text: &[u8]) -> LineAnswer
     if is_reserved(identity) {
         return LineAnswer::Faulty(Refusal::IdentityReserved);
     }
-    judge_kind(identity, kind, text)
+    judge_kind(identity, kind, text, foreign)
+}
+
+// The page of what must be pairs, or the lowest of numbers 1 to 7. A good text is passed over once, digits and characters together;
+// only one that ends the reading is passed over again.
+fn judge_pairs(identity: u32, kind: u8, text: &[u8]) -> LineAnswer
+    ensures { λ r. ⌜ r ≡ cond (isPairs (now (text .entry))) (pageOf identity kind (bytesOf (now (text .entry)))) (Faulty Malformed) ⌝ }
+{
+    if text::is_text(coding(kind), text) {
+        return judge_page(identity, kind, text, false);
+    }
+    if is_pairs(text) {
+        return judge_page(identity, kind, text, true);
+    }
+    LineAnswer::Faulty(Refusal::Malformed)
+}
+
+// The page by what stands behind its kind, which must be nothing, or a space and pairs; or the lowest of numbers 1 to 7.
+fn judge_tail(identity: u32, kind: u8, t: &[u8]) -> LineAnswer
+    ensures { λ r. ⌜ r ≡ cond (tailFormed (now (t .entry))) (pageOf identity kind (bytesOf (drop 1 (now (t .entry))))) (Faulty Malformed) ⌝ }
+{
+    if t.len() == 0 {
+        return judge_page(identity, kind, t, false);
+    }
+    if t[0] != b' ' {
+        return LineAnswer::Faulty(Refusal::Malformed);
+    }
+    judge_pairs(identity, kind, &t[1..])
 }
 
 // What a line, without its newline, says.
 pub fn read_line(line: &[u8]) -> LineAnswer
     ensures { λ r. ⌜ r ≡ lineOf (now (line .entry)) ⌝ }
 {
-    if !well_formed(line) {
+    if !head_formed(line) {
         return LineAnswer::Faulty(Refusal::Malformed);
     }
     let identity = base::hex_number(&line[..6]);
     let kind = base::hex_value(line[7]);
-    if line.len() < 9 {
-        judge_page(identity, kind, &line[..0])
-    } else {
-        judge_page(identity, kind, &line[9..])
-    }
+    judge_tail(identity, kind, &line[8..])
 }
 
 // A refused job: no page is kept.

@@ -4,7 +4,8 @@ use mathlib.Core.List.{List}
 use mathlib.Core.Bool.{Bool, true, false, not, _&&_}
 use lib.Dec.{eqb}
 use lib.ListN.{length, getD}
-use Rattle.base.specs.Hex.{between}
+use Rattle.base.specs.Hex.{between, isHex, bytesOf}
+use Rattle.base.specs.Leading.{leading}
 use Rattle.base.specs.Lists.{tab}
 use Rattle.text.specs.Numeric.{numericOf}
 use Rattle.text.specs.declared.NumericValue.{NumericValue}
@@ -30,6 +31,10 @@ isNumeric b = hasValue (numericOf b)
 abbrev pub charOk : Coding → ℕ → Bool
 charOk Numeric b = isNumeric b
 charOk Alphanumeric b = between 1 127 b && not (between 3 4 b)
+
+-- one or more pairs of digits that all write characters: nothing but digits, two for each character at the front
+unfoldable pub isText : Coding → List ℕ → Bool
+isText c t = not (eqb (length t) 0) && (eqb (leading isHex t) (length t) && eqb (2 * leading (charOk c) (bytesOf t)) (length t))
 
 -- whether a numeric text ends in a space, which reading would drop (number 7); an alphanumeric one may
 unfoldable pub endsInSpace : Coding → List ℕ → Bool

@@ -4,10 +4,9 @@ ghost use mathlib.Core.Path.{_≡_};
 ghost use Prim.Native.Nat.{_+_, _*_, _%_, _^_, _≤_};
 ghost use lib.ListN.{length, getD};
 ghost use Rattle.base.specs.Hex.{hexOf, bytesOf};
-ghost use Rattle.base.specs.Leading.{leading};
 ghost use Rattle.base.specs.Lists.{tab};
 ghost use Rattle.text.specs.Numeric.{numericOf, numericByte};
-ghost use Rattle.text.specs.Coding.{isNumeric, charOk, endsInSpace, widthOf, fillOf, valueOf, turnedOf, groupOf, groupsOf};
+ghost use Rattle.text.specs.Coding.{isNumeric, charOk, isText, endsInSpace, widthOf, fillOf, valueOf, turnedOf, groupOf, groupsOf};
 ghost use Rattle.text.specs.Packing.{Few, Refilled};
 ghost use Rattle.text.specs.Heard.{charIn, charHeard, ends, heardText};
 ghost use Rattle.text.specs.declared.Coding.the-variants.{Numeric, Alphanumeric};
@@ -79,18 +78,27 @@ fn is_char(c: Coding, b: u8) -> bool
     }
 }
 
-// How many characters of the coding a text begins with.
-pub fn char_run(c: Coding, text: &[u8]) -> usize
-    ensures { λ r. ⌜ r ≡ leading (charOk c) (bytesOf (now (text .entry))) ⌝ }
+// Whether a text is one or more pairs of digits that all write characters of the coding, in one pass. Both digits of a pair have one
+// test: two would compile to jumps by the digits, which no processor foresees.
+pub fn is_text(c: Coding, text: &[u8]) -> bool
+    ensures { λ r. ⌜ r ≡ isText c (now (text .entry)) ⌝ }
 {
+    if text.len() == 0 {
+        return false;
+    }
     let mut k = 0;
     while k < text.len() / 2 {
-        if !is_char(c, base::pair_byte(text, k, 0)) {
-            return k;
+        let high = base::digit_value(text[2 * k]);
+        let low = base::digit_value(text[2 * k + 1]);
+        if 16 <= high | low {
+            return false;
+        }
+        if !is_char(c, high * 16 + low) {
+            return false;
         }
         k += 1;
     }
-    k
+    2 * k == text.len()
 }
 
 // Whether a numeric text ends in a space.

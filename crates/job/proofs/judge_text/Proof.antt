@@ -5,9 +5,8 @@ use borrow.Author.Tests.{lt-ltb, le-ltb, eq-eqb, ne-eqb}
 use lib.ListN.{length}
 use denote.Ref.{now}
 use Rattle.base.specs.Hex.{bytesOf}
-use Rattle.base.specs.Leading.{leading}
 use Rattle.base.proofs.HexLaws.{bytes-length}
-use Rattle.text.specs.Coding.{charOk, endsInSpace}
+use Rattle.text.specs.Coding.{endsInSpace}
 use Rattle.text.specs.declared.Coding.{Coding}
 use Rattle.job.specs.Line.{longestOf, codingOf, textPageOf}
 use Rattle.job.specs.declared.LineAnswer.the-variants.{Good}
@@ -15,12 +14,9 @@ use borrow.Author.Needs.{needs}
 use Rattle.job.proofs.judge_text.Statement.{statement}
 use Rattle.job.proofs.judge_text.Tie as tie
 
--- The run of good characters and the space at the end, as the definition has them.
-run : (c : tie.After-char-run) → c .char-run .result ≡ leading (charOk (codingOf (c .before .before .before .before .before .before .args .kind))) (bytesOf (now (c .before .before .before .before .before .before .args .text)))
-run c = c .char-run .ensures ∙ ap (λ (x : Coding). leading (charOk x) (bytesOf (now (c .before .before .before .before .before .before .args .text)))) (c .before .coding .ensures)
-
-spaced : (c : tie.After-ends-in-space) → c .ends-in-space .result ≡ endsInSpace (codingOf (c .before .before .before .before .before .before .before .before .args .kind)) (bytesOf (now (c .before .before .before .before .before .before .before .before .args .text)))
-spaced c = c .ends-in-space .ensures ∙ ap (λ (x : Coding). endsInSpace x (bytesOf (now (c .before .before .before .before .before .before .before .before .args .text)))) (c .before .before .before .coding .ensures)
+-- The space at the end, as the definition has it.
+spaced : (c : tie.After-ends-in-space) → c .ends-in-space .result ≡ endsInSpace (codingOf (c .before .before .before .before .before .before .before .args .kind)) (bytesOf (now (c .before .before .before .before .before .before .before .args .text)))
+spaced c = c .ends-in-space .ensures ∙ ap (λ (x : Coding). endsInSpace x (bytesOf (now (c .before .before .before .before .before .before .before .args .text)))) (c .before .coding .ensures)
 
 returns : tie.Need-returns
 unfolding textPageOf
@@ -37,20 +33,16 @@ returns-2 c =
     let n = bytes-length (now (a .text)) in
     simp (ne-eqb (length b) 0 (λ e. c .before .before .if1 .left (sym n ∙ e)), lt-ltb (longestOf (a .kind)) (length b) (omega arith))
 
-coding-requires : tie.Need-coding-requires
-coding-requires c κs = search needs
-
-char-run-requires : tie.Need-char-run-requires
-char-run-requires c κs = search needs
-
 returns-3 : tie.Need-returns-3
 unfolding textPageOf
 returns-3 c =
-    let a = c .before .before .before .before .before .before .before .args in
+    let a = c .before .before .before .before .before .args in
     let b = bytesOf (now (a .text)) in
     let n = bytes-length (now (a .text)) in
-    let r = run (c .before) in
-    simp (ne-eqb (length b) 0 (λ e. c .before .before .before .before .before .if1 .left (sym n ∙ e)), le-ltb (longestOf (a .kind)) (length b) (omega arith), lt-ltb (leading (charOk (codingOf (a .kind))) b) (length b) (omega arith))
+    simp (ne-eqb (length b) 0 (λ e. c .before .before .before .if1 .left (sym n ∙ e)), le-ltb (longestOf (a .kind)) (length b) (omega arith), sym (c .before .before .before .before .before .pre) ∙ c .if3 .taken)
+
+coding-requires : tie.Need-coding-requires
+coding-requires c κs = search needs
 
 ends-in-space-requires : tie.Need-ends-in-space-requires
 ends-in-space-requires c κs = search needs
@@ -58,20 +50,18 @@ ends-in-space-requires c κs = search needs
 returns-4 : tie.Need-returns-4
 unfolding textPageOf
 returns-4 c =
-    let a = c .before .before .before .before .before .before .before .before .before .args in
+    let a = c .before .before .before .before .before .before .before .before .args in
     let b = bytesOf (now (a .text)) in
     let n = bytes-length (now (a .text)) in
-    let r = run (c .before .before .before) in
-    simp (ne-eqb (length b) 0 (λ e. c .before .before .before .before .before .before .before .if1 .left (sym n ∙ e)), le-ltb (longestOf (a .kind)) (length b) (omega arith), le-ltb (leading (charOk (codingOf (a .kind))) b) (length b) (omega arith), sym (spaced (c .before)) ∙ c .if4 .taken)
+    simp (ne-eqb (length b) 0 (λ e. c .before .before .before .before .before .before .if1 .left (sym n ∙ e)), le-ltb (longestOf (a .kind)) (length b) (omega arith), sym (c .before .before .before .before .before .before .before .before .pre) ∙ c .before .before .before .if3 .left, sym (spaced (c .before)) ∙ c .if4 .taken)
 
 returns-5 : tie.Need-returns-5
 unfolding textPageOf
 returns-5 c =
-    let a = c .before .before .before .before .before .before .before .before .before .args in
+    let a = c .before .before .before .before .before .before .before .before .args in
     let b = bytesOf (now (a .text)) in
     let n = bytes-length (now (a .text)) in
-    let r = run (c .before .before .before) in
-    simp (ne-eqb (length b) 0 (λ e. c .before .before .before .before .before .before .before .if1 .left (sym n ∙ e)), le-ltb (longestOf (a .kind)) (length b) (omega arith), le-ltb (leading (charOk (codingOf (a .kind))) b) (length b) (omega arith), sym (spaced (c .before)) ∙ c .if4 .left)
+    simp (ne-eqb (length b) 0 (λ e. c .before .before .before .before .before .before .if1 .left (sym n ∙ e)), le-ltb (longestOf (a .kind)) (length b) (omega arith), sym (c .before .before .before .before .before .before .before .before .pre) ∙ c .before .before .before .if3 .left, sym (spaced (c .before)) ∙ c .if4 .left)
     (ap (Good (a .identity) (a .kind)) (sym n))
 
 pub judge-text-spec : {M : Type 1} → statement M
@@ -81,9 +71,8 @@ judge-text-spec =
     returns
     longest-requires
     returns-2
-    coding-requires
-    char-run-requires
     returns-3
+    coding-requires
     ends-in-space-requires
     returns-4
     returns-5)
