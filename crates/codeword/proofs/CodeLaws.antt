@@ -29,11 +29,6 @@ pub weight-ones : (w : ℕ) → w < 2 ^ 32 → ones w ≡ weight w
 unfolding weight
 weight-ones w h = ones-in 32 w h
 
--- a number of 31 bits has its ones among them
-pub weight-31 : (n : ℕ) → n < 2 ^ 31 → weight n ≡ onesIn 31 n
-unfolding weight
-weight-31 n h = ones-more 31 n h
-
 -- bit 32, and the ones before it
 pub weight-last : (w : ℕ) → w < 2 ^ 32 → weight w ≡ w % 2 + weight (w / 2)
 unfolding weight onesIn

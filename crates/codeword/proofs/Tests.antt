@@ -1,12 +1,11 @@
--- Tests that antt computes over a whole list, and what they show of each entry. Assumes nothing.
+-- Tests that antt computes over a whole list or all numbers below a limit, and what they show of each. Assumes nothing.
 use mathlib.Core.Path.{_≡_, _∙_, ap, subst, sym}
 use mathlib.Core.Bool.{Bool, true, not, _&&_}
 use mathlib.Core.List.{List, [], _∷_, map, List·Memᴰ, List·Memᴰ·cases-cons, List·Memᴰ·not-nil}
 use mathlib.Core.Logic.{⊎-elim}
-use Prim.Native.Nat.{ℕ, zero, suc, _+_, _<_}
-use native.Mathlib.Nat.{add-zero, zero-add, add-suc, suc-add, le-of-suc-le-suc, not-suc-le-zero}
+use Prim.Native.Nat.{ℕ, zero, suc, _<_}
+use native.Mathlib.Nat.{eq-or-lt-of-le, le-of-suc-le-suc, not-suc-le-zero}
 use lib.Dec.{T, T-not, eqb, eqb-refl}
-use lib.ListN.{length, getD}
 use Rattle.base.proofs.Bools.{and-left, and-right}
 
 -- a test passes at each entry
@@ -22,20 +21,18 @@ all-at f (x ∷ xs) t a m =
     (λ n. all-at f xs (and-right (f x) (all f xs) t) a n)
     (List·Memᴰ·cases-cons m)
 
--- a test passes at each entry and its place, counted from i
-abbrev pub every : (ℕ → ℕ → Bool) → ℕ → List ℕ → Bool
-every f i [] = true
-every f i (x ∷ xs) = f i x && every f (suc i) xs
+-- a test passes at each number below n
+abbrev pub below : (ℕ → Bool) → ℕ → Bool
+below f zero = true
+below f (suc n) = f n && below f n
 
-from : (f : ℕ → ℕ → Bool) (xs : List ℕ) (i : ℕ) → T (every f i xs) → (k : ℕ) → k < length xs → T (f (i + k) (getD xs k 0))
-from f [] i t k h = absurd (not-suc-le-zero h)
-from f (x ∷ xs) i t zero h = subst (λ (m : ℕ). T (f m x)) (sym (add-zero i)) (and-left (f i x) (every f (suc i) xs) t)
-from f (x ∷ xs) i t (suc k) h =
-    subst (λ (m : ℕ). T (f m (getD xs k 0))) (suc-add i k ∙ sym (add-suc i k))
-    (from f xs (suc i) (and-right (f i x) (every f (suc i) xs) t) k (le-of-suc-le-suc h))
-
-pub every-at : (f : ℕ → ℕ → Bool) (xs : List ℕ) → T (every f 0 xs) → (k : ℕ) → k < length xs → T (f k (getD xs k 0))
-every-at f xs t k h = subst (λ (m : ℕ). T (f m (getD xs k 0))) (zero-add k) (from f xs 0 t k h)
+pub below-at : (f : ℕ → Bool) (n : ℕ) → T (below f n) → (i : ℕ) → i < n → T (f i)
+below-at f zero t i h = absurd (not-suc-le-zero h)
+below-at f (suc n) t i h =
+    ⊎-elim
+    (λ e. subst (λ (m : ℕ). T (f m)) (sym e) (and-left (f n) (below f n) t))
+    (λ l. below-at f n (and-right (f n) (below f n) t) i l)
+    (eq-or-lt-of-le (le-of-suc-le-suc h))
 
 -- no two entries are equal
 abbrev apart : ℕ → List ℕ → Bool

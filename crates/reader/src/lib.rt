@@ -5,7 +5,6 @@ ghost use lib.ListN.{length, getD};
 ghost use Rattle.base.specs.Hex.{pairsOf};
 ghost use Rattle.base.specs.Lists.{over};
 ghost use Rattle.codeword.specs.Nearest.{nearest};
-ghost use Rattle.codeword.specs.Table.{WrongBitsTable};
 ghost use Rattle.text.specs.Heard.{heardText};
 ghost use Rattle.listing.specs.Words.{wordsOf};
 ghost use Rattle.reader.specs.Meaning.{codewordMeaning, meaning, isSync};
@@ -90,36 +89,33 @@ fn symbol(c: Codeword) -> u32
 }
 
 // A received word's symbol, once corrected.
-fn read_word(table: &[u16; 1024], word: u32) -> u32
-    requires { ⌜ WrongBitsTable (now table) ⌝ }
+fn read_word(word: u32) -> u32
     ensures { λ r. ⌜ said r ≡ meaning (nearest word) ⌝ }
 {
-    let Correction::Corrected(c) = codeword::correct_by(table, word) else {
+    let Correction::Corrected(c) = codeword::correct(word) else {
         return LOST;
     };
     symbol(c)
 }
 
 // Whether a word corrects to sync.
-fn is_sync(table: &[u16; 1024], word: u32) -> bool
-    requires { ⌜ WrongBitsTable (now table) ⌝ }
+fn is_sync(word: u32) -> bool
     ensures { λ r. ⌜ r ≡ isSync (nearest word) ⌝ }
 {
-    let Correction::Corrected(c) = codeword::correct_by(table, word) else {
+    let Correction::Corrected(c) = codeword::correct(word) else {
         return false;
     };
     c.is_sync()
 }
 
 // The first batch, from 0, whose first word does not correct to sync, or the number of batches.
-fn first_unsynced(table: &[u16; 1024], words: &[u32]) -> usize
-    requires { ⌜ WrongBitsTable (now table) ⌝ }
+fn first_unsynced(words: &[u32]) -> usize
     ensures { λ r. ⌜ r ≡ firstUnsynced (now (words .entry)) ⌝ }
 {
     let batches = words.len() / 17;
     let mut q = 0;
     while q < batches {
-        if !is_sync(table, words[17 * q]) {
+        if !is_sync(words[17 * q]) {
             return q;
         }
         q += 1;
@@ -128,14 +124,13 @@ fn first_unsynced(table: &[u16; 1024], words: &[u32]) -> usize
 }
 
 // The symbols of the slots of whole batches.
-fn read_slots(table: &[u16; 1024], words: &[u32], symbols: &mut [u32])
-    requires { ⌜ WrongBitsTable (now table) ⌝ }
+fn read_slots(words: &[u32], symbols: &mut [u32])
     requires { ⌜ length (now symbols) ≤ 16 * (length (now words) / 17) ⌝ }
     ensures { λ _. ⌜ Tells (now (words .entry)) (length (now (symbols .entry))) (now (symbols .exit)) ⌝ }
 {
     let mut s = 0;
     while s < symbols.len() {
-        symbols[s] = read_word(table, words[17 * (s / 16) + 1 + s % 16]);
+        symbols[s] = read_word(words[17 * (s / 16) + 1 + s % 16]);
         s += 1;
     }
 }
@@ -458,15 +453,14 @@ fn read_batches(words: &[u32], out: &mut [u8]) -> Reading
     ensures { λ r. ⌜ r ≡ readBatches (now (words .entry)) (length (now (out .entry))) ⌝ }
     ensures { λ r. ⌜ now (out .exit) ≡ over (now (out .entry)) (linesRead r (now (words .entry))) ⌝ }
 {
-    let table = codeword::wrong_bits_table();
     let batches = words.len() / 17;
-    let first = first_unsynced(&table, words);
+    let first = first_unsynced(words);
     if first < batches {
         return Reading::Declined(Fault::Unsynced(first + 1));
     }
     let mut symbols = blank_symbols();
     let slots = 16 * batches;
-    read_slots(&table, words, &mut symbols[..slots]);
+    read_slots(words, &mut symbols[..slots]);
     read_symbols(&symbols[..slots], out)
 }
 

@@ -61,12 +61,9 @@ fn print_correction(answer: Correction) {
     print_word(c.word());
 }
 
-// `W 00000003`: what a received word reads as, alone and by the table that is made for many.
+// `W 00000003`: what a received word reads as.
 fn word(line: &[u8]) {
-    let w = number_in(line, 2, 10);
-    print_correction(codeword::correct(w));
-    let table = codeword::wrong_bits_table();
-    print_correction(codeword::correct_by(&table, w));
+    print_correction(codeword::correct(number_in(line, 2, 10)));
 }
 
 // Numeric for the digit 4, otherwise alphanumeric.

@@ -5,16 +5,17 @@ use Prim.Native.Nat.{ℕ, _-_, _≤_, _<_}
 use native.Mathlib.Omega.{arith}
 use denote.Ref.{now}
 use borrow.Author.Count.{below-none, below-more}
+use borrow.Author.Needs.{needs}
 use Rattle.reader.specs.Answers.{unsynced}
 use Rattle.reader.proofs.AnswerLaws.{stops, none-unsynced}
 use Rattle.reader.proofs.first_unsynced.Statement.{statement}
 use Rattle.reader.proofs.first_unsynced.Tie as tie
 
 abbrev Inv-loop : tie.InvT-loop
-Inv-loop table words batches q₀ q = (q ≤ batches) × ((k : ℕ) → k < q → unsynced words k ≡ false)
+Inv-loop words batches q₀ q = (q ≤ batches) × ((k : ℕ) → k < q → unsynced words k ≡ false)
 
 abbrev μ-loop : tie.MeasureT-loop
-μ-loop table words batches q₀ q = batches - q
+μ-loop words batches q₀ q = batches - q
 
 loop-holds : tie.Need-loop-holds Inv-loop μ-loop
 loop-holds c = (omega arith, below-none _)
@@ -29,7 +30,7 @@ shared-slice-read-is-sync : tie.Need-shared-slice-read-is-sync Inv-loop μ-loop
 shared-slice-read-is-sync c = omega arith
 
 is-sync-requires : tie.Need-is-sync-requires Inv-loop μ-loop
-is-sync-requires c κs = c .before .before .before .before .pre
+is-sync-requires c κs = search needs
 
 returns : tie.Need-returns Inv-loop μ-loop
 returns c =

@@ -7,8 +7,8 @@ use Rattle.reader.specs.Meaning.{isSync}
 use Rattle.reader.proofs.is_sync.Statement.{statement}
 use Rattle.reader.proofs.is_sync.Tie as tie
 
-correct-by-requires : tie.Need-correct-by-requires
-correct-by-requires c κs = search needs
+correct-requires : tie.Need-correct-requires
+correct-requires c κs = search needs
 
 enum-known-c : tie.Need-enum-known-c
 enum-known-c c = search needs
@@ -19,7 +19,7 @@ enum-told c = search needs
 returns : tie.Need-returns
 returns c =
     let s = c .before .before .before in
-    sym (ap isSync (answer-refused (nearest (s .args .word)) (sym (c .enum-told .given .1) ∙ c .before .before .correct-by .ensures (s .pre))))
+    sym (ap isSync (answer-refused (nearest (s .args .word)) (sym (c .enum-told .given .1) ∙ c .before .before .correct .ensures)))
 
 is-sync-requires : tie.Need-is-sync-requires
 is-sync-requires c κs = search needs
@@ -28,9 +28,9 @@ returns-2 : tie.Need-returns-2
 returns-2 c =
     let s = c .before .before .before .before .before in
     c .is-sync .ensures
-    ∙ sym (ap isSync (answer-corrected (nearest (s .args .word)) _ (sym (c .before .before .c .given .1) ∙ c .before .before .before .before .correct-by .ensures (s .pre))))
+    ∙ sym (ap isSync (answer-corrected (nearest (s .args .word)) _ (sym (c .before .before .c .given .1) ∙ c .before .before .before .before .correct .ensures)))
 
 pub is-sync-spec : {M : Type 1} → statement M
 is-sync-spec =
     tie.close
-    (tie.spec correct-by-requires enum-known-c enum-told returns is-sync-requires returns-2)
+    (tie.spec correct-requires enum-known-c enum-told returns is-sync-requires returns-2)

@@ -21,35 +21,32 @@ use Rattle.reader.proofs.read_batches.Tie as tie
 abbrev slots : tie.Start → ℕ
 slots c = 16 * (length (now (c .args .words)) / 17)
 
-part-length : (c : tie.After-blank-symbols) → length (take (slots (c .before .before .before .before .before .before .before)) (c .blank-symbols .result)) ≡ slots (c .before .before .before .before .before .before .before)
-part-length c = length-take-le (slots (c .before .before .before .before .before .before .before)) (c .blank-symbols .result) (omega (arith, c .before .before .before .before .before .before .before .pre))
+part-length : (c : tie.After-blank-symbols) → length (take (slots (c .before .before .before .before .before)) (c .blank-symbols .result)) ≡ slots (c .before .before .before .before .before)
+part-length c = length-take-le (slots (c .before .before .before .before .before)) (c .blank-symbols .result) (omega (arith, c .before .before .before .before .before .pre))
 
-tells : (c : tie.After-read-slots) → Tells (now (c .before .before .before .before .before .before .before .before .before .before .args .words)) (slots (c .before .before .before .before .before .before .before .before .before .before)) (c .read-slots .last .1 .1 .0)
+tells : (c : tie.After-read-slots) → Tells (now (c .before .before .before .before .before .before .before .args .words)) (slots (c .before .before .before .before .before .before .before)) (c .read-slots .last .1 .0)
 tells c =
-    subst (λ (n : ℕ). Tells (now (c .before .before .before .before .before .before .before .before .before .before .args .words)) n (c .read-slots .last .1 .1 .0)) (part-length (c .before .before .before)) (c .read-slots .ensures)
+    subst (λ (n : ℕ). Tells (now (c .before .before .before .before .before .before .before .args .words)) n (c .read-slots .last .1 .0)) (part-length (c .before .before)) (c .read-slots .ensures)
 
 -- the part that is lent on is the same
 abbrev part : tie.After-read-slots → List ℕ
-part c = take (slots (c .before .before .before .before .before .before .before .before .before .before)) (c .read-slots .last .1 .1 .0 ++ drop (slots (c .before .before .before .before .before .before .before .before .before .before)) (c .before .before .before .blank-symbols .result))
+part c = take (slots (c .before .before .before .before .before .before .before)) (c .read-slots .last .1 .0 ++ drop (slots (c .before .before .before .before .before .before .before)) (c .before .before .blank-symbols .result))
 
-part-is : (c : tie.After-read-slots) → part c ≡ c .read-slots .last .1 .1 .0
-part-is c = take-at (c .read-slots .last .1 .1 .0) (drop (slots (c .before .before .before .before .before .before .before .before .before .before)) (c .before .before .before .blank-symbols .result)) (slots (c .before .before .before .before .before .before .before .before .before .before)) (tells c .count)
+part-is : (c : tie.After-read-slots) → part c ≡ c .read-slots .last .1 .0
+part-is c = take-at (c .read-slots .last .1 .0) (drop (slots (c .before .before .before .before .before .before .before)) (c .before .before .blank-symbols .result)) (slots (c .before .before .before .before .before .before .before)) (tells c .count)
 
-lent-length : (c : tie.After-read-slots) → length (part c) ≡ slots (c .before .before .before .before .before .before .before .before .before .before)
+lent-length : (c : tie.After-read-slots) → length (part c) ≡ slots (c .before .before .before .before .before .before .before)
 lent-length c = ap length (part-is c) ∙ tells c .count
-
-wrong-bits-table-requires : tie.Need-wrong-bits-table-requires
-wrong-bits-table-requires c κs = search needs
 
 first-unsynced-requires : tie.Need-first-unsynced-requires
 first-unsynced-requires c κs = search needs
 
-add-t12 : tie.Need-add-t12
-add-t12 c = search needs
+add-t9 : tie.Need-add-t9
+add-t9 c = search needs
 
 returns : tie.Need-returns
 returns c =
-    let a = c .before .before .before .before .before .before .args in
+    let a = c .before .before .before .before .args in
     let first = c .before .first-unsynced .ensures in
     (ap (λ (q : ℕ). Declined (Unsynced (q + 1))) first ∙ batches-unsynced (now (a .words)) (length (now (a .out))) (omega (arith, c .if1 .taken)), refl)
 
@@ -63,41 +60,40 @@ array-borrow-prefix-symbols : tie.Need-array-borrow-prefix-symbols
 array-borrow-prefix-symbols c = search needs
 
 slice-aggregate-read-slots : tie.Need-slice-aggregate-read-slots
-slice-aggregate-read-slots c = sym (part-length (c .before .before))
+slice-aggregate-read-slots c = sym (part-length (c .before))
 
 read-slots-requires : tie.Need-read-slots-requires
-read-slots-requires c κs = (c .before .before .before .before .before .before .wrong-bits-table .ensures, omega (arith, part-length (c .before .before)))
+read-slots-requires c κs = omega (arith, part-length (c .before))
 
 array-share-prefix-symbols : tie.Need-array-share-prefix-symbols
-array-share-prefix-symbols c = omega (arith, tells (c .before) .count, length-append (c .before .read-slots .last .1 .1 .0) (drop (slots (c .before .before .before .before .before .before .before .before .before .before .before)) (c .before .before .before .before .blank-symbols .result)))
+array-share-prefix-symbols c = omega (arith, tells (c .before) .count, length-append (c .before .read-slots .last .1 .0) (drop (slots (c .before .before .before .before .before .before .before .before)) (c .before .before .before .blank-symbols .result)))
 
 slice-aggregate-read-symbols : tie.Need-slice-aggregate-read-symbols
 slice-aggregate-read-symbols c = sym (lent-length (c .before .before))
 
 read-symbols-requires : tie.Need-read-symbols-requires
-read-symbols-requires c κs = omega (arith, lent-length (c .before .before .before), c .before .before .before .before .before .before .before .before .before .before .before .before .before .pre)
+read-symbols-requires c κs = omega (arith, lent-length (c .before .before .before), c .before .before .before .before .before .before .before .before .before .before .pre)
 
 same-length : tie.Need-same-length
 same-length c = search needs
 
 returns-2 : tie.Need-returns-2
 returns-2 c =
-    let a = c .before .before .before .before .before .before .before .before .before .before .before .before .before .before .before .before .args in
+    let a = c .before .before .before .before .before .before .before .before .before .before .before .before .before .args in
     let words = now (a .words) in
     let room = length (now (a .out)) in
     let e = c .before .before .before .before .before .before in
     let r = c .before .before .read-symbols in
-    let heard : heardBy (part e) ≡ heardIn words = ap heardBy (part-is e) ∙ heard-same words (e .read-slots .last .1 .1 .0) (tells e) in
-    let synced = batches-read words room (omega (arith, c .before .before .before .before .before .before .before .before .before .before .if1 .left, c .before .before .before .before .before .before .before .before .before .before .before .first-unsynced .ensures)) in
+    let heard : heardBy (part e) ≡ heardIn words = ap heardBy (part-is e) ∙ heard-same words (e .read-slots .last .1 .0) (tells e) in
+    let synced = batches-read words room (omega (arith, c .before .before .before .before .before .before .before .before .before .if1 .left, c .before .before .before .before .before .before .before .before .before .before .first-unsynced .ensures)) in
     (r .ensures .0 ∙ ap (λ (h : Heard). printedInto h room) heard ∙ synced, r .ensures .1 ∙ ap (λ (h : Heard). over (now (a .out)) (linesOf (r .result) h)) heard)
 
 pub read-batches-spec : {M : Type 1} → statement M
 read-batches-spec =
     tie.close
     (tie.spec
-    wrong-bits-table-requires
     first-unsynced-requires
-    add-t12
+    add-t9
     returns
     blank-symbols-requires
     mul-slots

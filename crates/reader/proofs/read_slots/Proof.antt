@@ -5,6 +5,7 @@ use native.Mathlib.Omega.{arith}
 use lib.ListN.{length, getD, length-set}
 use denote.Ref.{now}
 use borrow.Author.Count.{below-none}
+use borrow.Author.Needs.{needs}
 use Rattle.codeword.specs.Nearest.{nearest}
 use Rattle.reader.specs.Meaning.{meaning}
 use Rattle.reader.specs.Reading.{slotWord}
@@ -14,13 +15,13 @@ use Rattle.reader.proofs.read_slots.Statement.{statement}
 use Rattle.reader.proofs.read_slots.Tie as tie
 
 abbrev Inv-loop : tie.InvT-loop
-Inv-loop table words symbols₀ s₀ symbols s =
+Inv-loop words symbols₀ s₀ symbols s =
     (s ≤ length symbols₀)
     × (length symbols ≡ length symbols₀)
     × ((k : ℕ) → k < s → said (getD symbols k 0) ≡ meaning (nearest (slotWord words k)))
 
 abbrev μ-loop : tie.MeasureT-loop
-μ-loop table words symbols₀ s₀ symbols s = length symbols₀ - s
+μ-loop words symbols₀ s₀ symbols s = length symbols₀ - s
 
 loop-holds : tie.Need-loop-holds Inv-loop μ-loop
 loop-holds c = (omega arith, refl, below-none _)
@@ -41,7 +42,7 @@ shared-slice-read-read-word : tie.Need-shared-slice-read-read-word Inv-loop μ-l
 shared-slice-read-read-word c = omega arith
 
 read-word-requires : tie.Need-read-word-requires Inv-loop μ-loop
-read-word-requires c κs = c .before .before .before .before .before .pre .0
+read-word-requires c κs = search needs
 
 mul-symbols : tie.Need-mul-symbols Inv-loop μ-loop
 mul-symbols c = omega arith

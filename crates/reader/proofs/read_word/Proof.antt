@@ -8,8 +8,8 @@ use Rattle.reader.proofs.SymbolLaws.{lost-said}
 use Rattle.reader.proofs.read_word.Statement.{statement}
 use Rattle.reader.proofs.read_word.Tie as tie
 
-correct-by-requires : tie.Need-correct-by-requires
-correct-by-requires c κs = search needs
+correct-requires : tie.Need-correct-requires
+correct-requires c κs = search needs
 
 enum-known-c : tie.Need-enum-known-c
 enum-known-c c = search needs
@@ -21,7 +21,7 @@ returns : tie.Need-returns
 returns c =
     let s = c .before .before .before in
     lost-said
-    ∙ sym (ap meaning (answer-refused (nearest (s .args .word)) (sym (c .enum-told .given .1) ∙ c .before .before .correct-by .ensures (s .pre))))
+    ∙ sym (ap meaning (answer-refused (nearest (s .args .word)) (sym (c .enum-told .given .1) ∙ c .before .before .correct .ensures)))
 
 symbol-requires : tie.Need-symbol-requires
 symbol-requires c κs = search needs
@@ -30,9 +30,9 @@ returns-2 : tie.Need-returns-2
 returns-2 c =
     let s = c .before .before .before .before .before in
     c .symbol .ensures
-    ∙ sym (ap meaning (answer-corrected (nearest (s .args .word)) _ (sym (c .before .before .c .given .1) ∙ c .before .before .before .before .correct-by .ensures (s .pre))))
+    ∙ sym (ap meaning (answer-corrected (nearest (s .args .word)) _ (sym (c .before .before .c .given .1) ∙ c .before .before .before .before .correct .ensures)))
 
 pub read-word-spec : {M : Type 1} → statement M
 read-word-spec =
     tie.close
-    (tie.spec correct-by-requires enum-known-c enum-told returns symbol-requires returns-2)
+    (tie.spec correct-requires enum-known-c enum-told returns symbol-requires returns-2)
