@@ -1,8 +1,7 @@
 -- Where the search for a frame's next page starts. The code keeps a page number for each frame, `next`, and every page of the frame
 -- below it is sent: a search from there finds the same page as one from page 0. Assumes nothing.
-use mathlib.Core.Path.{_≡_, refl, sym, _∙_}
+use mathlib.Core.Path.{_≡_, refl, _∙_}
 use mathlib.Core.Bool.{Bool, true, false}
-use mathlib.Core.Logic.{⊎-elim}
 use mathlib.Core.List.{List}
 use Prim.Native.Nat.{ℕ, zero, suc, _+_, _≤_, _<_}
 use native.Mathlib.Omega.{arith}
@@ -10,11 +9,9 @@ use lib.ListN.{length, getD, set, replicate, length-set}
 use lib.Seq.{getD-set-same, getD-set-other}
 use lib.Dec.{eqb}
 use borrow.Author.Tests.{eqb-true, eqb-false}
-use Rattle.base.proofs.SearchLaws.{le-or-lt}
-use Rattle.placement.specs.Placement.{Job, jobOf, Framed, frameOf, mayStart, ready, stateAt}
-use Rattle.placement.specs.Found.{Found}
+use Rattle.placement.specs.Placement.{Job, Framed, frameOf, ready, stateAt}
 use Rattle.placement.proofs.Turn.{ready-true, ready-false}
-use Rattle.placement.proofs.Steps.{At, Next, Passed, asked, marks-length, at-starts, at-rests}
+use Rattle.placement.proofs.Steps.{At, Passed}
 
 -- there is a number for each frame, none beyond the pages, and each page below its frame's number is sent
 pub record Skips (job : Job) (marks next : List ℕ) : Type 0 where
@@ -45,7 +42,7 @@ at-set P l i v j h same other = go (eqb j i) refl
     go false e = let q = eqb-false j i e in rw (getD-set-other l i j v 0 q) (other q)
 
 -- a page that starts is one more that is sent
-skips-more : (job : Job) (marks next : List ℕ) (p s : ℕ) → p < length marks → Skips job marks next → Skips job (set marks p (s + 1)) next
+pub skips-more : (job : Job) (marks next : List ℕ) (p s : ℕ) → p < length marks → Skips job marks next → Skips job (set marks p (s + 1)) next
 skips-more job marks next p s h a =
     record {
       whole = a .whole;
@@ -53,48 +50,27 @@ skips-more job marks next p s h a =
       sent = λ k l. at-set (λ (m : ℕ). m ≡ 0 → ⊥) marks p (s + 1) k h (λ q u. omega arith) (λ q. a .sent k l);
     }
 
-module _ (frames words : List ℕ) where
-  -- the job, as the code has it
-  abbrev job : Job
-  job = jobOf frames words
+module _ (job : Job) (framed : Framed job) (s : ℕ) (marks : List ℕ) (left sent : ℕ) (a : At job s marks left sent) (next : List ℕ) (from : Skips job marks next) where
+  -- no page that the search in slot s skips may start
+  pub skips-passed : Passed job s (stateAt job s) (getD next (frameOf s) 0)
+  skips-passed k l = go (ready job s (stateAt job s) k) refl
+    where
+      go : (b : Bool) → ready job s (stateAt job s) k ≡ b → ready job s (stateAt job s) k ≡ false
+      go true e =
+          let m = ready-true job s (stateAt job s) k e in
+          absurd (from .sent k (rw (m .1) l) (rw (a .marked) (m .0)))
+      go false e = e
 
-  -- in slot s the search has found page r, from its frame's number on
-  module _ (framed : Framed job) (s : ℕ) (marks : List ℕ) (left sent : ℕ) (a : At job s marks left sent) (next : List ℕ) (from : Skips job marks next)
-      (r : ℕ) (found : Found frames marks s (getD next (frameOf s) 0) r) where
-    asks : (k : ℕ) → mayStart (getD marks k 0) (getD frames k 0) s ≡ ready job s (stateAt job s) k
-    asks = asked job framed s marks left sent a
-
-    -- no page below it may start
-    passed : Passed job s (stateAt job s) r
-    passed k l = ⊎-elim (λ h. sym (asks k) ∙ found .before k h l) (λ h. below h _ refl) (le-or-lt (getD next (frameOf s) 0) k)
-      where
-        below : k < getD next (frameOf s) 0 → (b : Bool) → ready job s (stateAt job s) k ≡ b → ready job s (stateAt job s) k ≡ false
-        below h true e =
-            let m = ready-true job s (stateAt job s) k e in
-            absurd (from .sent k (rw (m .1) h) (rw (a .marked) (m .0)))
-        below h false e = e
-
-    -- the next search in this frame may start there
-    skips-found : Skips job marks (set next (frameOf s) r)
-    skips-found =
-        record {
-          whole = length-set next (frameOf s) r ∙ from .whole;
-          within = λ f. at-set (λ (x : ℕ). x ≤ job .pages) next (frameOf s) r f here (λ q. found .within) (λ q. from .within f);
-          sent = λ k. at-set (λ (x : ℕ). k < x → getD marks k 0 ≡ 0 → ⊥) next (frameOf s) r (job .frame k) here
-              (λ q l u. ready-false job s (stateAt job s) k (passed k l) (rw (a .marked) at u, q))
-              (λ q. from .sent k);
-        }
-      where
-        here : frameOf s < length next
-        here = omega (arith, from .whole)
-
-    -- so the page that was found starts, or where there is none, the slot is idle
-    pub found-starts : left ≡ 0 → r < job .pages
-        → Next job s (set marks r (s + 1)) (job .words r) (sent + 1) false × Skips job (set marks r (s + 1)) (set next (frameOf s) r)
-    found-starts z l = (
-      at-starts job framed s marks left sent a r z l (sym (asks r) ∙ found .here l) passed,
-      skips-more job marks (set next (frameOf s) r) r s (omega (arith, marks-length job framed s marks left sent a)) skips-found,
-    )
-
-    pub found-rests : left ≡ 0 → job .pages ≤ r → Next job s marks left sent false × Skips job marks (set next (frameOf s) r)
-    found-rests z l = (at-rests job framed s marks left sent a z (λ k h. passed k (omega arith)), skips-found)
+  -- where it ends, the next search in the same frame may start
+  pub skips-found : (r : ℕ) → r ≤ job .pages → Passed job s (stateAt job s) r → Skips job marks (set next (frameOf s) r)
+  skips-found r w passed =
+      record {
+        whole = length-set next (frameOf s) r ∙ from .whole;
+        within = λ f. at-set (λ (x : ℕ). x ≤ job .pages) next (frameOf s) r f here (λ q. w) (λ q. from .within f);
+        sent = λ k. at-set (λ (x : ℕ). k < x → getD marks k 0 ≡ 0 → ⊥) next (frameOf s) r (job .frame k) here
+            (λ q l u. ready-false job s (stateAt job s) k (passed k l) (rw (a .marked) at u, q))
+            (λ q. from .sent k);
+      }
+    where
+      here : frameOf s < length next
+      here = omega (arith, from .whole)

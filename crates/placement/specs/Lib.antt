@@ -1,4 +1,3 @@
 pub mod Placement
 pub mod Promise
 pub mod Examples
-pub mod Found

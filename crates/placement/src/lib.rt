@@ -6,8 +6,13 @@ ghost use Prim.Native.Nat.{pred, _*_, _%_, _≤_};
 ghost use lib.Dec.{eqb};
 ghost use lib.ListN.{length, replicate};
 ghost use Rattle.base.specs.Lists.{over};
-ghost use Rattle.placement.specs.Found.{Found};
 ghost use Rattle.placement.specs.Placement.{Sendable, jobOf, mayStart, stateAt, batches, slots};
+
+// What a free slot starts: a page, by its number in the job, or nothing.
+enum Start {
+    Page(usize),
+    Idle,
+}
 
 // Every mark to 0: no page is sent.
 fn clear(marks: &mut [u32])
@@ -63,23 +68,6 @@ fn at_end(slot: u32, message: bool, left: u32, sent: usize, n: usize) -> bool
     sent == n
 }
 
-// The first page, from page `from` on, that may start in this slot; the number of pages where none may.
-fn find(frames: &[u8], marks: &[u32], slot: u32, from: usize) -> usize
-    requires { ⌜ length (now marks) ≡ length (now frames) ⌝ }
-    requires { ⌜ from ≤ length (now frames) ⌝ }
-    ensures { λ r. ⌜ Found (now (frames .entry)) (now (marks .entry)) slot from r ⌝ }
-{
-    let n = frames.len();
-    let mut i = from;
-    while i < n {
-        if may_start(marks[i], frames[i], slot) {
-            return i;
-        }
-        i += 1;
-    }
-    i
-}
-
 // Goes through the slots and answers the number of batches. A page's mark, 0 at first, becomes one more than its address slot.
 // Every page of a frame below the frame's entry in `next` is sent, so the search for the frame's next page starts there.
 fn run(frames: &[u8], words: &[u32], marks: &mut [u32]) -> u32
@@ -99,9 +87,18 @@ fn run(frames: &[u8], words: &[u32], marks: &mut [u32]) -> u32
             left -= 1;
         } else {
             let frame = (slot % 16 / 2) as usize;
-            let page = find(frames, marks, slot, next[frame]);
-            next[frame] = page;
-            if page < n {
+            let mut i = next[frame];
+            let start = loop {
+                if i == n {
+                    break Start::Idle;
+                }
+                if may_start(marks[i], frames[i], slot) {
+                    break Start::Page(i);
+                }
+                i += 1;
+            };
+            next[frame] = i;
+            if let Start::Page(page) = start {
                 marks[page] = slot + 1;
                 left = words[page];
                 sent += 1;
