@@ -1,13 +1,13 @@
 -- Lists made of one block for each element: the digits of texts, the lines of pages. Assumes nothing.
 use mathlib.Core.Path.{_≡_, refl, sym, ap, _∙_}
 use mathlib.Core.List.{List, [], _∷_, _++_, flatMap, append-assoc, append-nil}
-use Prim.Native.Nat.{ℕ, _+_, _*_, _/_, _%_, _≤_, _<_}
+use Prim.Native.Nat.{ℕ, _+_, _*_, _≤_, _<_}
 use native.Mathlib.Nat.{mul-suc, mul-le-mul-left}
 use native.Mathlib.Numerals.{add-one}
 use native.Mathlib.Omega.{arith}
 use lib.ListN.{length, getD, take, drop, length-append, length-drop}
 use lib.Seq.{take-suc, take-all, length-take-le}
-use Rattle.base.specs.Hex.{digitOf, digitsOf, pairsOf}
+use Rattle.base.specs.Hex.{digitsOf}
 use Rattle.base.specs.Lists.{over}
 use Rattle.base.proofs.HexLaws.{digits-length}
 use Rattle.base.proofs.ListLaws.{over-part, over-length}
@@ -71,32 +71,12 @@ module _ (f : ℕ → List ℕ) (w : ℕ) (each : (x : ℕ) → length (f x) ≡
       pub written-all : length t ≤ i → (w * length t ≡ length (flatMap f t)) × (out ≡ over old (flatMap f t))
       written-all h = (sym (flat-length t), x .is ∙ ap (λ (s : List ℕ). over old (flatMap f s)) (take-all i t h))
 
--- ---- pairs, five digits a group, lines
-
--- a byte's two digits
-abbrev pub pairOf : ℕ → List ℕ
-pairOf b = digitOf (b / 16) ∷ digitOf (b % 16) ∷ []
-
-pub pair-digits : (b : ℕ) → b < 256 → digitsOf 2 b ≡ pairOf b
-unfolding digitsOf
-pair-digits b h =
-    let high : b / 16 % 16 ≡ b / 16 = omega arith in
-    let low : b / 1 % 16 ≡ b % 16 = omega arith in
-    rw (high, low)
-
-pub pairs-flat : (t : List ℕ) → pairsOf t ≡ flatMap pairOf t
-unfolding pairsOf flatMap
-pairs-flat [] = refl
-pairs-flat (b ∷ t) = ap (λ (l : List ℕ). digitOf (b / 16) ∷ digitOf (b % 16) ∷ l) (pairs-flat t)
+-- ---- five digits a group, lines
 
 pub fives-flat : (gs : List ℕ) → fives gs ≡ flatMap (digitsOf 5) gs
 unfolding fives flatMap
 fives-flat [] = refl
 fives-flat (g ∷ gs) = ap (λ (l : List ℕ). digitsOf 5 g ++ l) (fives-flat gs)
-
--- how long they are
-pub pairs-length : (t : List ℕ) → length (pairsOf t) ≡ 2 * length t
-pairs-length t = ap length (pairs-flat t) ∙ flat-length pairOf 2 (λ b. refl) t
 
 pub fives-length : (gs : List ℕ) → length (fives gs) ≡ 5 * length gs
 fives-length gs = ap length (fives-flat gs) ∙ flat-length (digitsOf 5) 5 (digits-length 5) gs

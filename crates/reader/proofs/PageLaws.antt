@@ -19,6 +19,7 @@ use Rattle.text.specs.declared.Coding.{Coding}
 use Rattle.text.specs.declared.Coding.the-variants.{Numeric, Alphanumeric}
 use Rattle.text.proofs.BitLaws.{low-same, cut-bit}
 use Rattle.text.proofs.HeardLaws.{heard-fits}
+use Rattle.text.proofs.PairLaws.{pairs-length}
 use Rattle.job.specs.Print.{printed, printingOf, written}
 use Rattle.job.specs.declared.Printing.{Printing}
 use Rattle.job.specs.declared.Printing.the-variants.{Printed, NoRoom}
@@ -27,7 +28,7 @@ use Rattle.placement.specs.Placement.{frameOf}
 use Rattle.reader.specs.Reading.{closedAs}
 use Rattle.reader.specs.Lines.{kindHeard, fives, digitsHeard, lineHeard}
 use Rattle.reader.specs.Symbols.{groupsSaid, pageIn}
-use Rattle.reader.proofs.Blocks.{pairs-length, fives-length}
+use Rattle.reader.proofs.Blocks.{fives-length}
 
 -- ---- the kind
 
@@ -42,12 +43,9 @@ kind-some f (g ∷ gs) h = refl
 -- ---- how long the text and the line are
 
 -- at most five characters a group
-pub text-short : (c : Coding) (gs : List ℕ) → length (heardText c gs) ≤ 5 * length gs
-text-short Numeric gs = omega (arith, heard-fits Numeric gs)
-text-short Alphanumeric gs = omega (arith, heard-fits Alphanumeric gs)
-
 pairs-short : (c : Coding) (gs : List ℕ) → length (pairsOf (heardText c gs)) ≤ 10 * length gs
-pairs-short c gs = omega (arith, pairs-length (heardText c gs), text-short c gs)
+pairs-short Numeric gs = omega (arith, pairs-length (heardText Numeric gs), heard-fits Numeric gs)
+pairs-short Alphanumeric gs = omega (arith, pairs-length (heardText Alphanumeric gs), heard-fits Alphanumeric gs)
 
 pub digits-short : (f : ℕ) (gs : List ℕ) → length (digitsHeard f gs) ≤ 10 * length gs
 digits-short f gs = go (eqb f 0) (eqb f 3)

@@ -2,10 +2,8 @@
 ghost use mathlib.Core.Path.{_≡_};
 ghost use Prim.Native.Nat.{ℕ, _+_, _*_, _/_, _≤_, _<_};
 ghost use lib.ListN.{length, getD};
-ghost use Rattle.base.specs.Hex.{pairsOf};
 ghost use Rattle.base.specs.Lists.{over};
 ghost use Rattle.codeword.specs.Nearest.{nearest};
-ghost use Rattle.text.specs.Heard.{heardText};
 ghost use Rattle.listing.specs.Words.{wordsOf};
 ghost use Rattle.reader.specs.Meaning.{codewordMeaning, meaning, isSync};
 ghost use Rattle.reader.specs.Reading.{closedAs};
@@ -135,26 +133,6 @@ fn read_slots(words: &[u32], symbols: &mut [u32])
     }
 }
 
-// Writes the characters of groups as pairs of digits, and answers how many digits they are.
-fn write_text(coding: Coding, groups: &[u32], digits: &mut [u8]) -> usize
-    requires { ⌜ 10 * length (now groups) ≤ length (now digits) ⌝ }
-    ensures { λ r. ⌜ r ≡ length (pairsOf (heardText coding (now (groups .entry)))) ⌝ }
-    ensures { λ _. ⌜ now (digits .exit) ≡ over (now (digits .entry)) (pairsOf (heardText coding (now (groups .entry)))) ⌝ }
-{
-    let n = text::heard_length(coding, groups);
-    let mut i = 0;
-    while i < n {
-        let start = 2 * i;
-        let end = start + 2;
-        base::write_digits(
-            &mut digits[start..end],
-            text::heard_char(coding, groups, i) as u32,
-        );
-        i += 1;
-    }
-    2 * n
-}
-
 // Writes five digits a group, and answers how many digits they are.
 fn write_groups(groups: &[u32], digits: &mut [u8]) -> usize
     requires { ⌜ 5 * length (now groups) ≤ length (now digits) ⌝ }
@@ -179,8 +157,8 @@ fn write_page(function: u8, groups: &[u32], digits: &mut [u8]) -> usize
     ensures { λ _. ⌜ now (digits .exit) ≡ over (now (digits .entry)) (digitsHeard function (now (groups .entry))) ⌝ }
 {
     match function {
-        0 => write_text(Coding::Numeric, groups, digits),
-        3 => write_text(Coding::Alphanumeric, groups, digits),
+        0 => text::write_heard(Coding::Numeric, groups, digits),
+        3 => text::write_heard(Coding::Alphanumeric, groups, digits),
         _ => write_groups(groups, digits),
     }
 }

@@ -76,6 +76,9 @@ bits-low bit at (suc n) acc =
     let f : acc * 2 * 2 ^ n ≡ acc * 2 ^ suc n = rw (pow-succ' 2 n) (mul-assoc acc 2 (2 ^ n)) in
     rw e (bits-low bit (at + 1) n (acc * 2 + bit at) ∙ omega arith)
 
+pub bits-back : (bit : ℕ → ℕ) (at n : ℕ) → bitsFrom bit at n 0 ≡ fromLow (λ b. bit (at + (n - (b + 1)))) n
+bits-back bit at n = bits-low bit at n 0 ∙ omega arith
+
 -- what stands before them
 pub bits-behind : (bit : ℕ → ℕ) (at n acc : ℕ) → bitsFrom bit at n acc ≡ acc * 2 ^ n + bitsFrom bit at n 0
 bits-behind bit at n acc = omega (arith, bits-low bit at n acc, bits-low bit at n 0)
@@ -103,7 +106,7 @@ bits-same f g i j (suc n) acc h =
     (λ p l. let a : i + 1 + p ≡ i + (p + 1) = omega arith in let b : j + 1 + p ≡ j + (p + 1) = omega arith in rw (a, b) (h (p + 1) (omega arith))))
 
 pub bits-small : (bit : ℕ → ℕ) → ((p : ℕ) → bit p ≤ 1) → (at n : ℕ) → bitsFrom bit at n 0 < 2 ^ n
-bits-small bit small at n = omega (arith, bits-low bit at n 0, low-lt (λ b. bit (at + (n - (b + 1)))) (λ b. small (at + (n - (b + 1)))) n)
+bits-small bit small at n = omega (arith, bits-back bit at n, low-lt (λ b. bit (at + (n - (b + 1)))) (λ b. small (at + (n - (b + 1)))) n)
 
 -- bits turned round
 pub turned-low : (n x : ℕ) → turnedOf n x ≡ fromLow (λ b. x / 2 ^ (n - (b + 1)) % 2) n

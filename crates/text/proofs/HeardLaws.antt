@@ -7,7 +7,7 @@ use native.Mathlib.Omega.{arith}
 use lib.Dec.{eqb}
 use borrow.Author.Tests.{ne-eqb}
 use lib.ListN.{length, getD, take, drop, length-take}
-use lib.Seq.{length-take-le, getD-take}
+use lib.Seq.{length-take-le}
 use Rattle.base.specs.Leading.{leading}
 use Rattle.base.specs.Lists.{tab}
 use Rattle.base.proofs.LeadingLaws.{leading-more, leading-stop, leading-end, leading-le}
@@ -29,7 +29,7 @@ unfolding trimmed
 trim-front [] = refl
 trim-front (b ∷ s) = ahead-front b s (trimmed s) (trim-front s)
 
-heard-front : (c : Coding) (gs : List ℕ) → heardText c gs ≡ take (length (heardText c gs)) (charsIn c gs)
+pub heard-front : (c : Coding) (gs : List ℕ) → heardText c gs ≡ take (length (heardText c gs)) (charsIn c gs)
 unfolding heardText
 heard-front Numeric gs = trim-front (charsIn Numeric gs)
 heard-front Alphanumeric gs =
@@ -44,14 +44,6 @@ heard-fits c gs =
       ap length (heard-front c gs) ∙ length-take (length (heardText c gs)) (charsIn c gs),
       tab-length (charHeard c gs) (wholeIn c (length gs)),
     )
-
--- its characters are those at the same index
-pub heard-at : (c : Coding) (gs : List ℕ) (i : ℕ) → i < length (heardText c gs) → getD (heardText c gs) i 0 ≡ charHeard c gs i
-heard-at c gs i h =
-    let fits = heard-fits c gs in
-    ap (λ (t : List ℕ). getD t i 0) (heard-front c gs)
-    ∙ getD-take (length (heardText c gs)) (charsIn c gs) i 0 h
-    ∙ tab-at (charHeard c gs) (wholeIn c (length gs)) i 0 (omega arith)
 
 -- ---- the length of a numeric text: the loop that goes back over its trailing spaces
 

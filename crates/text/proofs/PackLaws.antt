@@ -17,7 +17,7 @@ use Rattle.text.proofs.WidthLaws.{width-small}
 -- ---- two digits
 
 -- what stands above the low n bits doesn't matter
-turned-cut : (n x : ℕ) → turnedOf n (x % 2 ^ n) ≡ turnedOf n x
+pub turned-cut : (n x : ℕ) → turnedOf n (x % 2 ^ n) ≡ turnedOf n x
 unfolding turnedOf
 turned-cut n x = bits-same (λ p. x % 2 ^ n / 2 ^ p % 2) (λ p. x / 2 ^ p % 2) 0 0 n 0 (λ p h. cut-bit x n (0 + p) (omega arith))
 

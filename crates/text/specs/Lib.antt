@@ -3,3 +3,4 @@ pub mod Coding
 pub mod Packing
 pub mod Heard
 pub mod Back
+pub mod Window

@@ -1,14 +1,15 @@
 // The characters of a page's text and its 20-bit message groups (document 01, "Texts").
 // A text is handed in as it stands in a job: pairs of upper-case hexadecimal digits.
 ghost use mathlib.Core.Path.{_≡_};
-ghost use Prim.Native.Nat.{_+_, _*_, _%_, _^_, _≤_};
+ghost use Prim.Native.Nat.{_+_, _*_, _%_, _^_, _≤_, _<_};
 ghost use lib.ListN.{length, getD};
-ghost use Rattle.base.specs.Hex.{hexOf, bytesOf};
-ghost use Rattle.base.specs.Lists.{tab};
+ghost use Rattle.base.specs.Hex.{hexOf, digitOf, bytesOf, pairsOf};
+ghost use Rattle.base.specs.Lists.{over, tab};
 ghost use Rattle.text.specs.Numeric.{numericOf, numericByte};
 ghost use Rattle.text.specs.Coding.{isNumeric, charOk, isText, endsInSpace, widthOf, fillOf, valueOf, turnedOf, groupOf, groupsOf};
 ghost use Rattle.text.specs.Packing.{Few, Refilled};
-ghost use Rattle.text.specs.Heard.{charIn, charHeard, ends, heardText};
+ghost use Rattle.text.specs.Heard.{charHeard, ends, heardText};
+ghost use Rattle.text.specs.Window.{More};
 ghost use Rattle.text.specs.declared.Coding.the-variants.{Numeric, Alphanumeric};
 
 // The two ways to write a text in bits.
@@ -252,7 +253,8 @@ fn char_bits(c: Coding, text: &[u8], k: usize) -> u32
     }
 }
 
-// Bits on their way into groups: the low `have` bits of the window, the first on top, and the index of the next character.
+// Bits on their way into groups, or out of them: the low `have` bits of the window, the first on top, and the index of the next character,
+// or group.
 struct Bits {
     window: u64,
     have: usize,
@@ -309,37 +311,60 @@ pub fn groups(c: Coding, count: u16) -> usize
     ((count as usize) * w + 19) / 20
 }
 
-// The 20 bits of the group at an index, or 0 behind the last.
-fn group_bits(groups: &[u32], g: usize) -> u64
-    ensures { λ r. ⌜ r ≡ getD (now (groups .entry)) g 0 % 2 ^ 20 ⌝ }
+// The hexadecimal digit of four bits, the lowest first. One arm a value: a table, where turning them round would be a loop.
+fn bits_digit(bits: u32) -> u8
+    ensures { λ r. ⌜ r ≡ digitOf (turnedOf 4 (bits % 16)) ⌝ }
 {
-    if g < groups.len() {
-        (groups[g] % 1048576) as u64
-    } else {
-        0
+    match bits % 16 {
+        0 => b'0',
+        1 => b'8',
+        2 => b'4',
+        3 => b'C',
+        4 => b'2',
+        5 => b'A',
+        6 => b'6',
+        7 => b'E',
+        8 => b'1',
+        9 => b'9',
+        10 => b'5',
+        11 => b'D',
+        12 => b'3',
+        13 => b'B',
+        14 => b'7',
+        _ => b'F',
     }
 }
 
-// The value of the character at index i of groups. The window has the group where the character begins, and the next.
-fn value_in(c: Coding, groups: &[u32], i: usize) -> u8
-    ensures { λ r. ⌜ r ≡ charIn c (now (groups .entry)) i ⌝ }
+// Four bits turned round, by one arm a value too.
+fn turned_bits(bits: u32) -> u8
+    ensures { λ r. ⌜ r ≡ turnedOf 4 (bits % 16) ⌝ }
 {
-    let w = width(c);
-    let from = w * (i % 20);
-    let g = w * (i / 20) + from / 20;
-    let window = group_bits(groups, g) * 1048576 + group_bits(groups, g + 1);
-    turned(window >> (40 - w - from % 20), w) as u8
+    match bits % 16 {
+        0 => 0,
+        1 => 8,
+        2 => 4,
+        3 => 12,
+        4 => 2,
+        5 => 10,
+        6 => 6,
+        7 => 14,
+        8 => 1,
+        9 => 9,
+        10 => 5,
+        11 => 13,
+        12 => 3,
+        13 => 11,
+        14 => 7,
+        _ => 15,
+    }
 }
 
-// The character at index i of groups, as it is shown.
-pub fn heard_char(c: Coding, groups: &[u32], i: usize) -> u8
-    ensures { λ r. ⌜ r ≡ charHeard c (now (groups .entry)) i ⌝ }
+// The numeric character at index i of groups, five a group.
+fn numeric_char(groups: &[u32], i: usize) -> u8
+    requires { ⌜ i < 5 * length (now groups) ⌝ }
+    ensures { λ r. ⌜ r ≡ charHeard Numeric (now (groups .entry)) i ⌝ }
 {
-    let v = value_in(c, groups, i);
-    match c {
-        Coding::Numeric => numeric_byte(v),
-        Coding::Alphanumeric => v,
-    }
+    numeric_byte(turned_bits(groups[i / 5] >> (16 - 4 * (i % 5))))
 }
 
 // The length of a numeric text: back over the trailing spaces.
@@ -348,7 +373,7 @@ fn numeric_length(groups: &[u32]) -> usize
 {
     let mut n = 5 * groups.len();
     while 0 < n {
-        if heard_char(Coding::Numeric, groups, n - 1) != b' ' {
+        if numeric_char(groups, n - 1) != b' ' {
             return n;
         }
         n -= 1;
@@ -356,37 +381,88 @@ fn numeric_length(groups: &[u32]) -> usize
     n
 }
 
-// Whether a character ends an alphanumeric text.
-fn ends_text(b: u8) -> bool
-    ensures { λ r. ⌜ r ≡ ends b ⌝ }
+// Writes the numeric text of groups as pairs of digits, and answers how many digits they are.
+fn write_numeric(groups: &[u32], digits: &mut [u8]) -> usize
+    requires { ⌜ 10 * length (now groups) ≤ length (now digits) ⌝ }
+    ensures { λ r. ⌜ r ≡ length (pairsOf (heardText Numeric (now (groups .entry)))) ⌝ }
+    ensures { λ _. ⌜ now (digits .exit) ≡ over (now (digits .entry)) (pairsOf (heardText Numeric (now (groups .entry)))) ⌝ }
 {
-    match b {
-        0 | 3 | 4 => true,
+    let n = numeric_length(groups);
+    let mut i = 0;
+    while i < n {
+        let b = numeric_char(groups, i) as u32;
+        digits[2 * i] = base::hex_digit(b / 16);
+        digits[2 * i + 1] = base::hex_digit(b);
+        i += 1;
+    }
+    2 * i
+}
+
+// The same bits, and behind them those of the next group where there are fewer than a character's seven and a group is left.
+fn more(b: Bits, groups: &[u32]) -> Bits
+    ensures { λ r. ⌜ More (now (groups .entry)) b r ⌝ }
+{
+    if 7 <= b.have {
+        return b;
+    }
+    let next = b.next;
+    if groups.len() <= next {
+        return b;
+    }
+    Bits {
+        window: b.window % 128 * 1048576 + (groups[next] % 1048576) as u64,
+        have: b.have + 20,
+        next: next + 1,
+    }
+}
+
+// Whether the seven bits of a character, the lowest first, are those of 0, 3 or 4, which end an alphanumeric text.
+fn ends_text(bits: u32) -> bool
+    requires { ⌜ bits < 128 ⌝ }
+    ensures { λ r. ⌜ r ≡ ends (turnedOf 7 bits) ⌝ }
+{
+    match bits {
+        0 | 16 | 96 => true,
         _ => false,
     }
 }
 
-// The length of an alphanumeric text: on to its end, or to the last whole character.
-fn alphanumeric_length(groups: &[u32]) -> usize
-    ensures { λ r. ⌜ r ≡ length (heardText Alphanumeric (now (groups .entry))) ⌝ }
+// Writes the alphanumeric text of groups as pairs of digits, and answers how many digits they are.
+fn write_alphanumeric(groups: &[u32], digits: &mut [u8]) -> usize
+    requires { ⌜ 10 * length (now groups) ≤ length (now digits) ⌝ }
+    ensures { λ r. ⌜ r ≡ length (pairsOf (heardText Alphanumeric (now (groups .entry)))) ⌝ }
+    ensures { λ _. ⌜ now (digits .exit) ≡ over (now (digits .entry)) (pairsOf (heardText Alphanumeric (now (groups .entry)))) ⌝ }
 {
-    let n = groups.len() / 7 * 20 + groups.len() % 7 * 20 / 7;
+    let mut b = Bits {
+        window: 0,
+        have: 0,
+        next: 0,
+    };
     let mut i = 0;
-    while i < n {
-        if ends_text(heard_char(Coding::Alphanumeric, groups, i)) {
-            return i;
+    loop {
+        b = more(b, groups);
+        if b.have < 7 {
+            return 2 * i;
         }
+        b.have -= 7;
+        let bits = ((b.window >> b.have) % 128) as u32;
+        if ends_text(bits) {
+            return 2 * i;
+        }
+        digits[2 * i] = bits_digit(bits % 8 * 2);
+        digits[2 * i + 1] = bits_digit(bits / 8);
         i += 1;
     }
-    i
 }
 
-// How many characters the text of groups has.
-pub fn heard_length(c: Coding, groups: &[u32]) -> usize
-    ensures { λ r. ⌜ r ≡ length (heardText c (now (groups .entry))) ⌝ }
+// Writes the text of groups as pairs of digits, and answers how many digits they are.
+pub fn write_heard(c: Coding, groups: &[u32], digits: &mut [u8]) -> usize
+    requires { ⌜ 10 * length (now groups) ≤ length (now digits) ⌝ }
+    ensures { λ r. ⌜ r ≡ length (pairsOf (heardText c (now (groups .entry)))) ⌝ }
+    ensures { λ _. ⌜ now (digits .exit) ≡ over (now (digits .entry)) (pairsOf (heardText c (now (groups .entry)))) ⌝ }
 {
     match c {
-        Coding::Numeric => numeric_length(groups),
-        Coding::Alphanumeric => alphanumeric_length(groups),
+        Coding::Numeric => write_numeric(groups, digits),
+        Coding::Alphanumeric => write_alphanumeric(groups, digits),
     }
 }

@@ -100,11 +100,12 @@ fn heard(line: &[u8]) {
     print(b"|");
 }
 
-fn print_heard(coding: Coding, groups: &[u32]) {
-    let n = text::heard_length(coding, groups);
+fn print_heard(coding: Coding, groups: &[u32; 2]) {
+    let mut digits = [0u8; 20];
+    let n = text::write_heard(coding, groups, &mut digits);
     let mut i: usize = 0;
-    while i < n {
-        print(&[text::heard_char(coding, groups, i)]);
+    while i < n / 2 {
+        print(&[base::pair_byte(&digits, i, 0)]);
         i += 1;
     }
 }

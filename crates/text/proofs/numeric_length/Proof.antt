@@ -2,7 +2,7 @@
 use borrow.Author.Needs.{needs}
 use mathlib.Core.Path.{_≡_, sym, ap, _∙_}
 use native.Mathlib.Omega.{arith}
-use Prim.Native.Nat.{_-_}
+use Prim.Native.Nat.{_*_, _≤_}
 use denote.Ref.{now}
 use lib.ListN.{length}
 use Rattle.base.specs.Lists.{tab}
@@ -13,7 +13,7 @@ use Rattle.text.proofs.numeric_length.Statement.{statement}
 use Rattle.text.proofs.numeric_length.Tie as tie
 
 abbrev Inv-loop : tie.InvT-loop
-Inv-loop groups n₀ n = length (heardText Numeric groups) ≡ length (trimmed (tab (charHeard Numeric groups) n))
+Inv-loop groups n₀ n = (n ≤ 5 * length groups) × (length (heardText Numeric groups) ≡ length (trimmed (tab (charHeard Numeric groups) n)))
 
 abbrev μ-loop : tie.MeasureT-loop
 μ-loop groups n₀ n = n
@@ -22,19 +22,19 @@ mul-n : tie.Need-mul-n Inv-loop μ-loop
 mul-n c = omega arith
 
 loop-holds : tie.Need-loop-holds Inv-loop μ-loop
-loop-holds c = numeric-start (now (c .before .args .groups))
+loop-holds c = (omega arith, numeric-start (now (c .before .args .groups)))
 
-sub-heard-char : tie.Need-sub-heard-char Inv-loop μ-loop
-sub-heard-char c = search needs
+sub-numeric-char : tie.Need-sub-numeric-char Inv-loop μ-loop
+sub-numeric-char c = search needs
 
-heard-char-requires : tie.Need-heard-char-requires Inv-loop μ-loop
-heard-char-requires c κs = search needs
+numeric-char-requires : tie.Need-numeric-char-requires Inv-loop μ-loop
+numeric-char-requires c κs = search needs
 
 returns : tie.Need-returns Inv-loop μ-loop
 returns c =
     let gs = now (c .before .before .before .before .before .args .groups) in
     let l = c .before .before .before .loop in
-    sym (l .inv ∙ trim-stop (charHeard Numeric gs) (l .n) (c .before .before .loop-test .taken) (λ e. c .if1 .taken (c .before .heard-char .ensures ∙ e)))
+    sym (l .inv .1 ∙ trim-stop (charHeard Numeric gs) (l .n) (c .before .before .loop-test .taken) (λ e. c .if1 .taken (c .before .numeric-char .ensures ∙ e)))
 
 sub-n : tie.Need-sub-n Inv-loop μ-loop
 sub-n c = search needs
@@ -46,12 +46,12 @@ loop-again : tie.Need-loop-again Inv-loop μ-loop
 loop-again c =
     let gs = now (c .before .before .before .before .before .args .groups) in
     let l = c .before .before .before .loop in
-    l .inv ∙ ap length (trim-more (charHeard Numeric gs) (l .n) (c .before .before .loop-test .taken) (sym (c .before .heard-char .ensures) ∙ c .if1 .left))
+    (omega arith, l .inv .1 ∙ ap length (trim-more (charHeard Numeric gs) (l .n) (c .before .before .loop-test .taken) (sym (c .before .numeric-char .ensures) ∙ c .if1 .left)))
 
 returns-2 : tie.Need-returns-2 Inv-loop μ-loop
 returns-2 c =
     let l = c .before .loop in
-    sym (l .inv ∙ trim-none (charHeard Numeric (now (c .before .before .before .args .groups))) (l .n) (omega arith))
+    sym (l .inv .1 ∙ trim-none (charHeard Numeric (now (c .before .before .before .args .groups))) (l .n) (omega arith))
 
 pub numeric-length-spec : {M : Type 1} → statement M
 numeric-length-spec =
@@ -61,8 +61,8 @@ numeric-length-spec =
     μ-loop
     mul-n
     loop-holds
-    sub-heard-char
-    heard-char-requires
+    sub-numeric-char
+    numeric-char-requires
     returns
     sub-n
     loop-less

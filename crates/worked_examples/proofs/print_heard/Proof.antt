@@ -1,27 +1,29 @@
 -- `worked_examples::print_heard` is safe and ends. Assumes nothing.
-use mathlib.Core.Path.{_≡_, sym, ap, _∙_}
-use Prim.Native.Nat.{_-_, _+_, _≤_}
-use native.Mathlib.Omega.{arith}
-use lib.ListN.{length, length-set}
-use lib.Seq.{length-take-le}
+use Prim.Native.Nat.{_-_, _≤_}
 use borrow.Author.Needs.{needs}
 use Rattle.worked_examples.proofs.print_heard.Statement.{statement}
 use Rattle.worked_examples.proofs.print_heard.Tie as tie
 
 abbrev Inv-loop : tie.InvT-loop
-Inv-loop coding groups n i₀ i = i ≤ n
+Inv-loop groups digits n i₀ i = i ≤ n
 
 abbrev μ-loop : tie.MeasureT-loop
-μ-loop coding groups n i₀ i = n - i
+μ-loop groups digits n i₀ i = n - i
 
-heard-length-requires : tie.Need-heard-length-requires Inv-loop μ-loop
-heard-length-requires c κs = search needs
+slice-aggregate-write-heard : tie.Need-slice-aggregate-write-heard Inv-loop μ-loop
+slice-aggregate-write-heard c = search needs
+
+write-heard-requires : tie.Need-write-heard-requires Inv-loop μ-loop
+write-heard-requires c κs = search needs
 
 loop-holds : tie.Need-loop-holds Inv-loop μ-loop
 loop-holds c = search needs
 
-heard-char-requires : tie.Need-heard-char-requires Inv-loop μ-loop
-heard-char-requires c κs = search needs
+slice-aggregate-pair-byte : tie.Need-slice-aggregate-pair-byte Inv-loop μ-loop
+slice-aggregate-pair-byte c = search needs
+
+pair-byte-requires : tie.Need-pair-byte-requires Inv-loop μ-loop
+pair-byte-requires c κs = search needs
 
 slice-aggregate-print : tie.Need-slice-aggregate-print Inv-loop μ-loop
 slice-aggregate-print c = search needs
@@ -47,9 +49,11 @@ print-heard-spec =
     (tie.spec
     Inv-loop
     μ-loop
-    heard-length-requires
+    slice-aggregate-write-heard
+    write-heard-requires
     loop-holds
-    heard-char-requires
+    slice-aggregate-pair-byte
+    pair-byte-requires
     slice-aggregate-print
     print-requires
     add-i
