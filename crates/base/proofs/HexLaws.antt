@@ -7,10 +7,10 @@ use mathlib.Core.Logic.{⊎-elim}
 use native.Mathlib.Numerals.{add-one}
 use native.Mathlib.Nat.{div-div-eq-div-mul, div-one, pow-suc, pow-succ', pow-le-pow-right, mul-le-mul-right, mul-assoc}
 use native.Mathlib.Omega.{arith}
-use lib.Dec.{leb, ltb}
+use lib.Dec.{leb, ltb, eqb}
 use lib.ListN.{length, getD, take, drop, drop-of-length-le}
 use lib.Seq.{drop-cons}
-use borrow.Author.Tests.{leb-true, leb-false, le-leb, lt-leb, lt-ltb, eq-eqb, ne-eqb}
+use borrow.Author.Tests.{leb-true, leb-false, le-leb, lt-leb, lt-ltb, eq-eqb, ne-eqb, eqb-true}
 use Rattle.base.specs.Hex.{between, isHex, hexOf, digitValue, digitOf, hexNumber, hexWord, digitsOf, bytesOf, pairsOf}
 use Rattle.base.specs.Leading.{leading}
 use Rattle.base.specs.declared.HexWord.the-variants.{Number, NotHex}
@@ -159,6 +159,18 @@ word-number s e f = rw (eq-eqb (leading isHex s) (length s) e, f)
 pub word-none : (s : List ℕ) → (leading isHex s ≡ length s → ⊥) → NotHex ≡ hexWord s
 unfolding hexWord
 word-none s h = rw (ne-eqb (leading isHex s) (length s) h)
+
+-- and what the answer says of the bytes
+pub number-word : (s : List ℕ) (n : ℕ) → hexWord s ≡ Number n → (leading isHex s ≡ length s) × (n ≡ hexNumber 0 s % 2 ^ 32)
+unfolding hexWord
+number-word s n e =
+    ⊎-elim
+    (λ (t : eqb (leading isHex s) (length s) ≡ true). let f = rw t at e in (eqb-true (leading isHex s) (length s) t, cc))
+    (λ (t : eqb (leading isHex s) (length s) ≡ false). let f = rw t at e in absurd (let z : _≡_ {A = ℕ} 0 1 = cc in omega arith))
+    (either (eqb (leading isHex s) (length s)))
+
+pub none-word : (s : List ℕ) → hexWord s ≡ NotHex → leading isHex s ≡ length s → ⊥
+none-word s e all = let f = word-number s all refl in let z : _≡_ {A = ℕ} 0 1 = cc in omega arith
 
 pub shift-digit : (k n : ℕ) → n / 16 ^ k / 16 ≡ n / 16 ^ suc k
 shift-digit k n = rw (pow-suc 16 k) (div-div-eq-div-mul n (16 ^ k) 16)

@@ -1,12 +1,12 @@
--- `transmission::copy_front` meets its contract. The invariant: the first i numbers are copied, and the others are as they came. Assumes nothing.
+-- `base::copy_front` meets its contract. The invariant: the first i numbers are copied, and the others are as they came. Assumes nothing.
 use mathlib.Core.Path.{_≡_, refl, _∙_}
 use Prim.Native.Nat.{_≤_, _-_}
 use native.Mathlib.Omega.{arith}
 use borrow.Author.Needs.{needs}
 use lib.ListN.{length, getD, length-set}
 use Rattle.base.proofs.ListLaws.{filled, filled-turn, filled-over}
-use Rattle.transmission.proofs.copy_front.Statement.{statement}
-use Rattle.transmission.proofs.copy_front.Tie as tie
+use Rattle.base.proofs.copy_front.Statement.{statement}
+use Rattle.base.proofs.copy_front.Tie as tie
 
 abbrev Inv-loop : tie.InvT-loop
 Inv-loop from to₀ count i₀ to i = (i ≤ length from) × (length to ≡ length to₀) × (to ≡ filled to₀ from i)
