@@ -6,28 +6,27 @@ use mathlib.Core.Bool.{true, false}
 use mathlib.Core.Logic.{⊎-elim}
 use native.Mathlib.Numerals.{add-one}
 use native.Mathlib.Omega.{arith}
-use borrow.Author.Tests.{eq-eqb, ne-eqb, eqb-true, eqb-false, lt-ltb, le-ltb, ltb-true, ltb-false}
-use lib.Dec.{eqb, ltb}
-use lib.ListN.{length, getD, take, drop, drop-of-length-le, length-drop, List·getD-eq-default}
+use borrow.Author.Tests.{eq-eqb, ne-eqb, eqb-true, eqb-false, lt-ltb, le-ltb}
+use lib.Dec.{eqb}
+use lib.ListN.{length, getD, take, drop, drop-of-length-le, length-drop}
 use lib.Seq.{drop-cons, drop-drop, getD-drop, take-at}
 use Rattle.base.specs.Hex.{isHex}
 use Rattle.base.specs.Leading.{leading}
 use Rattle.base.specs.Lines.{split}
 use Rattle.base.specs.Lists.{over, tab}
 use Rattle.base.proofs.Bools.{either, and-false}
-use Rattle.base.proofs.HexLaws.{digits-hex}
+use Rattle.base.proofs.HexLaws.{digits-hex, digits-back}
 use Rattle.listing.specs.Text.{opensFrame, endOf, textOf}
 use Rattle.listing.specs.Listing.{framesIn, preambleOf, isDue, batches, listingOf}
-use Rattle.listing.specs.Words.{wordAt}
-use Rattle.listing.specs.Scan.{lineFrom, lineBytes, wordsFrom}
+use Rattle.listing.specs.Scan.{lineFrom}
 use Rattle.listing.specs.Answers.{writingOf}
 use Rattle.listing.specs.ReadBack.{OfBatches, ReadBack}
 use Rattle.listing.specs.declared.Listing.the-variants.{WellFormed}
 use Rattle.listing.specs.declared.Writing.the-variants.{Bytes}
 use Rattle.listing.proofs.FirstLine.{alone, pair, one-word, two-words}
-use Rattle.listing.proofs.BatchLaws.{frames-more, frames-stop, listing-long, batches-more, batches-end, whole-yes}
-use Rattle.listing.proofs.Indexed.{words-more, wordsBefore, words-indexed, read-words}
-use Rattle.listing.proofs.TextLaws.{text-length, text-digits, text-end, word-behind, word-back}
+use Rattle.listing.proofs.BatchLaws.{lineBytes, frames-more, frames-stop, listing-long, batches-more, batches-end, whole-yes}
+use Rattle.listing.proofs.Indexed.{wordAt, wordsFrom, words-more, wordsBefore, words-indexed, read-words}
+use Rattle.listing.proofs.TextLaws.{text-length, text-digits, text-end}
 
 -- ---- what stands behind a word, by its place
 
@@ -143,20 +142,17 @@ module _ (ws : List ℕ) where
 
   -- ---- the words
 
+  word-back : (k : ℕ) → k < length ws → getD ws k 0 < 2 ^ 32 → wordAt (textOf ws) k ≡ getD ws k 0
+  unfolding wordAt
+  word-back k h small =
+      let z : getD ws k 0 / 16 ^ 8 ≡ 0 = omega arith in
+      rw (text-digits 0 ws k h) (rw z at (digits-back 8 (getD ws k 0)))
+
   words-back : (n k : ℕ) → k + n ≡ length ws → ((j : ℕ) → getD ws j 0 < 2 ^ 32) → wordsFrom (textOf ws) k n ≡ drop k ws
   unfolding tab
   words-back zero k e small = sym (drop-of-length-le ws {i = k} (omega arith))
   words-back (suc n) k e small =
-      rw (words-more (textOf ws) k n, drop-cons ws k 0 (omega arith), word-back ws k (omega arith) (small k), words-back n (k + 1) (omega arith) small, add-one)
-
-  each-back : ((j : ℕ) → getD ws j 0 < 2 ^ 32) → (k : ℕ) → wordAt (textOf ws) k ≡ getD ws k 0
-  each-back small k =
-      ⊎-elim
-      (λ (e : ltb k (length ws) ≡ true). word-back ws k (ltb-true k (length ws) e) (small k))
-      (λ (e : ltb k (length ws) ≡ false).
-      let h = ltb-false k (length ws) e in
-      word-behind (textOf ws) k (omega (arith, text-length 0 ws)) ∙ sym (List·getD-eq-default ws 0 {n = k} h))
-      (either (ltb k (length ws)))
+      rw (words-more (textOf ws) k n, drop-cons ws k 0 (omega arith), word-back k (omega arith) (small k), words-back n (k + 1) (omega arith) small, add-one)
 
 form-back : (ws : List ℕ) (b : ℕ) → OfBatches ws b → listingOf (textOf ws) ≡ WellFormed 9 b
 form-back ws b t =
@@ -167,17 +163,16 @@ pub read-back : (words : List ℕ) (b : ℕ) → OfBatches words b → ReadBack 
 read-back ws b t =
     let text = textOf ws in
     let form = form-back ws b t in
-    let words = words-back ws (17 * b) 18 (omega arith) (t .small) in
+    let batches = words-indexed text 9 b form ∙ words-back ws (17 * b) 18 (omega arith) (t .small) in
     record {
       writing =
           λ old room.
           let answer : writingOf ws (length old) ≡ Bytes (9 * length ws) = rw (le-ltb (length old) (9 * length ws) room) in
           (answer, rw answer (take-at text _ (9 * length ws) (text-length 0 ws)));
       form = form;
-      batches = words-indexed text 9 b form ∙ words;
+      batches = batches;
       reading =
           λ old room.
           let answer = read-words text old 9 b form room in
-          (sym (answer .0), sym (answer .1) ∙ ap (over old) words);
-      each = each-back ws (t .small);
+          (sym (answer .0), sym (answer .1) ∙ ap (over old) batches);
     }

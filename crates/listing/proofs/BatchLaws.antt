@@ -1,7 +1,7 @@
 -- How the lines of a listing go on, one at a time, and the numbers of a well-formed one. Assumes nothing.
 use Prim.Native.Nat.{ℕ, zero, suc, _+_, _-_, _*_, _/_, _%_, _≤_, _<_}
 use mathlib.Core.Path.{_≡_, refl, ap, sym, _∙_}
-use mathlib.Core.List.{List}
+use mathlib.Core.List.{List, [], _++_}
 use mathlib.Core.Bool.{Bool, true, false, cond, _&&_}
 use mathlib.Core.Logic.{⊎-elim}
 use native.Mathlib.Nat.{eq-or-lt-of-le}
@@ -13,9 +13,10 @@ use lib.Seq.{drop-drop}
 use Rattle.base.specs.Lines.{Lines, behind, line, split, lineAt}
 use Rattle.base.proofs.Bools.{either, and-true, and-false}
 use Rattle.base.proofs.LinesLaws.{none-left}
-use Rattle.listing.specs.Listing.{hasTwo, framesIn, preambleOf, skip, isDue, isWhole, batches, listingOf}
+use Rattle.listing.specs.Listing.{hasOne, hasTwo, framesIn, preambleOf, skip, isDue, isWhole, batches, listingOf}
+use Rattle.listing.specs.Words.{lineWords, wordsIn, batchWords, wordsOf, wordsMet, wordsDecoded}
 use Rattle.listing.specs.Formed.{Limits}
-use Rattle.listing.specs.Scan.{lineFrom, lineBytes}
+use Rattle.listing.specs.Scan.{lineFrom}
 use Rattle.listing.specs.declared.Fault.{Fault}
 use Rattle.listing.specs.declared.Fault.the-variants.{Malformed, TooMany}
 use Rattle.listing.specs.declared.Listing.{Listing}
@@ -87,6 +88,18 @@ module _ (s : List ℕ) (p : ℕ) (e : p ≡ preambleOf (split s)) where
   unfolding listingOf
   listing-long h = rw (← e, le-ltb p 9 h, frames-skip p 36 s (omega arith) .0)
 
+  pub decoded-short : p < 9 → wordsDecoded s ≡ []
+  unfolding wordsDecoded
+  decoded-short h = rw (← e, lt-ltb p 9 h)
+
+  pub decoded-long : 9 ≤ p → wordsDecoded s ≡ wordsMet 0 (split (drop (18 * p) s))
+  unfolding wordsDecoded
+  decoded-long h = rw (← e, le-ltb p 9 h, frames-skip p 36 s (omega arith) .0)
+
+-- how many bytes line q of the batches takes, with its newline
+unfoldable pub lineBytes : ℕ → ℕ
+lineBytes q = cond (eqb (q % 9) 0) 9 18
+
 module _ (p q : ℕ) (d : List ℕ) where
   -- a line that is due stands in front
   pub due-line : isDue q (lineFrom d 0) ≡ true → split d ≡ line (lineFrom d 0) (split (drop (lineBytes q) d))
@@ -113,6 +126,10 @@ module _ (p q : ℕ) (d : List ℕ) where
   unfolding batches
   batches-over e h = ap (batches p q) (due-line e) ∙ rw (e, eq-eqb q 2700 h)
 
+  pub met-more : isDue q (lineFrom d 0) ≡ true → (q ≡ 2700 → ⊥) → wordsMet q (split d) ≡ lineWords (lineFrom d 0) ++ wordsMet (q + 1) (split (drop (lineBytes q) d))
+  unfolding wordsMet
+  met-more e h = ap (wordsMet q) (due-line e) ∙ rw (e, ne-eqb q 2700 h)
+
   -- another line, or no newline any more
   pub batches-stray : isDue q (lineFrom d 0) ≡ false → 0 < length d → batches p q (split d) ≡ Declined (Malformed (p + q + 1))
   unfolding batches lineAt
@@ -122,10 +139,36 @@ module _ (p q : ℕ) (d : List ℕ) where
       (λ l. let cut = first-line d _ refl l in let here = rw cut at e in rw (cut, here))
       (lines-of d)
 
+  -- a line behind 300 batches
+  pub batches-full : q ≡ 2700 → 0 < length d
+      → batches p q (split d) ≡ Declined (cond (hasOne (lineFrom d 0)) (TooMany (p + q + 1)) (Malformed (p + q + 1)))
+  unfolding isDue
+  batches-full e h =
+      let first = eq-eqb (q % 9) 0 (omega arith) in
+      ⊎-elim
+      (λ (o : hasOne (lineFrom d 0) ≡ true). rw o (batches-over (rw (first, o)) e))
+      (λ (o : hasOne (lineFrom d 0) ≡ false). rw o (batches-stray (rw (first, o)) h))
+      (either (hasOne (lineFrom d 0)))
+
   -- the text ends
   pub batches-end : length d ≡ 0 → batches p q (split d) ≡ cond (isWhole q) (WellFormed p (q / 9)) (Declined (Malformed (p + q + 1)))
   unfolding batches
   batches-end h = ap (batches p q) (none-left d 0 (omega arith))
+
+-- the words up to there
+pub met-stray : (q : ℕ) (ls : Lines) → isDue q (lineAt 0 ls) ≡ false → wordsMet q ls ≡ []
+unfolding wordsMet lineAt
+met-stray q (behind t) e = refl
+met-stray q (line l ls) e = rw e
+
+pub met-full : (q : ℕ) (ls : Lines) → q ≡ 2700 → wordsMet q ls ≡ []
+unfolding wordsMet
+met-full q (behind t) e = refl
+met-full q (line l ls) e = rw (eq-eqb q 2700 e, and-false (isDue q l))
+
+pub met-end : (q : ℕ) (s : List ℕ) (at : ℕ) → length s ≤ at → wordsMet q (split (drop at s)) ≡ []
+unfolding wordsMet
+met-end q s at h = rw (none-left s at h)
 
 pub whole-yes : (q : ℕ) → 0 < q → q % 9 ≡ 0 → isWhole q ≡ true
 unfolding isWhole
@@ -184,7 +227,7 @@ batches-formed p q p' b (line l ls) h e =
 
 -- they are within the limits, and the batches' lines start behind the preamble's
 pub listing-formed : (s : List ℕ) (p b : ℕ) → listingOf s ≡ WellFormed p b
-    → Limits p b × (skip p (split s) ≡ split (drop (18 * p) s)) × (batches p 0 (split (drop (18 * p) s)) ≡ WellFormed p b)
+    → Limits p b × (skip p (split s) ≡ split (drop (18 * p) s)) × (batches p 0 (split (drop (18 * p) s)) ≡ WellFormed p b) × (p ≡ preambleOf (split s))
 unfolding listingOf
 listing-formed s p b e =
     let n = preambleOf (split s) in
@@ -197,4 +240,18 @@ listing-formed s p b e =
       record { long = omega arith; short = omega arith; some = rest .2; few = rest .3 },
       rw (← same) cut,
       rw (← same) (ap (batches n 0) (sym cut) ∙ f .1 ∙ ap (λ m. WellFormed m b) (sym same)),
+      sym same,
     )
+
+-- all its words are met
+met-all : (p q p' b : ℕ) (ls : Lines) → batches p q ls ≡ WellFormed p' b → wordsMet q ls ≡ wordsIn ls
+unfolding wordsMet wordsIn
+met-all p q p' b (behind t) e = refl
+met-all p q p' b (line l ls) e =
+    let f = line-formed p q p' b l ls e in
+    rw (f .0, ne-eqb q 2700 (f .1)) (ap (λ (ws : List ℕ). lineWords l ++ ws) (met-all p (q + 1) p' b ls (f .2)))
+
+pub listing-decoded : (s : List ℕ) (p b : ℕ) → listingOf s ≡ WellFormed p b → wordsDecoded s ≡ wordsOf s
+listing-decoded s p b e =
+    let f = listing-formed s p b e in
+    decoded-long s p (f .3) (f .0 .long) ∙ met-all p 0 p b (split (drop (18 * p) s)) (f .2) ∙ sym (ap (batchWords s) e ∙ ap wordsIn (f .1))

@@ -1,5 +1,5 @@
 -- The first line of a text, told by the bytes at fixed places: which words it has, and what stands behind it. Assumes nothing.
-use Prim.Native.Nat.{ℕ, zero, suc, _+_, _-_, _<_}
+use Prim.Native.Nat.{ℕ, zero, suc, _+_, _-_, _≤_, _<_}
 use mathlib.Core.Path.{_≡_, refl, sym, _∙_}
 use mathlib.Core.List.{List, [], _∷_}
 use mathlib.Core.Bool.{Bool, true, false, _&&_}
@@ -10,15 +10,18 @@ use borrow.Author.Tests.{eq-eqb, ne-eqb, eqb-true, eqb-false, leb-true, leb-fals
 use lib.Dec.{eqb, leb}
 use lib.ListN.{length, getD, take, drop, length-drop, List·getD-eq-default}
 use lib.Seq.{length-take-le, take-take, getD-take, getD-drop, drop-drop, drop-cons}
-use Rattle.base.specs.Hex.{isHex}
+use Rattle.base.specs.Hex.{isHex, hexNumber, hexWord}
 use Rattle.base.specs.Leading.{leading}
 use Rattle.base.specs.Lines.{Lines, behind, line, split, lineAt, notNewline, lineEnd}
+use Rattle.base.specs.declared.HexWord.the-variants.{Number, NotHex}
 use Rattle.base.proofs.Bools.{either, true-false, and-true, and-false}
+use Rattle.base.proofs.HexLaws.{number-word, none-word, number-fits}
 use Rattle.base.proofs.LeadingLaws.{leading-le}
 use Rattle.base.proofs.LinesLaws.{cut, uncut}
 use Rattle.base.proofs.ListLaws.{drop-take}
 use Rattle.listing.specs.Listing.{isWord, hasOne, hasTwo}
-use Rattle.listing.specs.Scan.{lineFrom}
+use Rattle.listing.specs.Words.{lineWords}
+use Rattle.listing.specs.Scan.{lineFrom, wordsIf}
 
 -- ---- Booleans and bytes
 
@@ -170,14 +173,49 @@ module _ (d : List ℕ) where
       (λ (h : leading notNewline d < length d). rw (first-line d (leading notNewline d) refl h) (two-says (leading notNewline d) refl h))
       (lines-of d)
 
--- ---- the line that starts at a byte, as tests of single bytes and of runs of digits find it
+-- a line of two words has not one alone
+pub two-not-one : (l : List ℕ) → hasTwo l ≡ true → hasOne l ≡ false
+unfolding hasOne hasTwo
+two-not-one l e =
+    let second = and-true (isWord (take 8 l) && eqb (getD l 8 0) 32) (isWord (drop 9 l)) e .1 in
+    let size = eqb-true (length (drop 9 l)) 8 (and-true (eqb (length (drop 9 l)) 8) _ second .0) in
+    rw (ne-eqb (length l) 8 (λ f. omega (arith, length-drop 9 l)))
+
+-- ---- the line that starts at a byte, as tests of single bytes and of eight digits find it
+
+-- eight bytes as a word
+module _ (s : List ℕ) (at : ℕ) (h : at + 8 ≤ length s) where
+  eight : length (take 8 (drop at s)) ≡ 8
+  eight = length-take-le 8 (drop at s) (omega (arith, length-drop at s))
+
+  word-digits : (w : ℕ) → hexWord (take 8 (drop at s)) ≡ Number w → (leading isHex (take 8 (drop at s)) ≡ 8) × (hexNumber 0 (take 8 (drop at s)) ≡ w)
+  word-digits w e =
+      let d = number-word (take 8 (drop at s)) w e in
+      (d .0 ∙ eight, sym (d .1 ∙ number-fits (take 8 (drop at s)) (omega (arith, eight))))
+
+  word-other : hexWord (take 8 (drop at s)) ≡ NotHex → leading isHex (take 8 (drop at s)) ≡ 8 → ⊥
+  word-other e f = none-word (take 8 (drop at s)) e (f ∙ sym eight)
 
 module _ (s : List ℕ) (at : ℕ) where
   pub one-open : (getD s (at + 8) 0 ≡ 10 → ⊥) → hasOne (lineFrom s at) ≡ false
   one-open h = one-word (drop at s) ∙ rw (getD-drop at s 8 0, ne-eqb (getD s (at + 8) 0) 10 h)
 
-  pub one-digits : getD s (at + 8) 0 ≡ 10 → hasOne (lineFrom s at) ≡ eqb (leading isHex (take 8 (drop at s))) 8
-  one-digits e = one-word (drop at s) ∙ rw (getD-drop at s 8 0, eq-eqb (getD s (at + 8) 0) 10 e)
+  module _ (e : getD s (at + 8) 0 ≡ 10) where
+    pub one-none : hexWord (take 8 (drop at s)) ≡ NotHex → hasOne (lineFrom s at) ≡ false
+    one-none n =
+        let long = inside s (at + 8) 10 e (omega arith) in
+        one-word (drop at s)
+        ∙ rw (getD-drop at s 8 0, eq-eqb (getD s (at + 8) 0) 10 e, ne-eqb (leading isHex (take 8 (drop at s))) 8 (word-other s at (omega arith) n))
+
+    pub one-some : (w : ℕ) → hexWord (take 8 (drop at s)) ≡ Number w → wordsIf (hasOne (lineFrom s at)) (lineFrom s at) ≡ w ∷ []
+    unfolding lineAt lineWords
+    one-some w n =
+        let long = inside s (at + 8) 10 e (omega arith) in
+        let d = word-digits s at (omega arith) w n in
+        let here : alone (drop at s) ≡ true = rw (getD-drop at s 8 0, eq-eqb (getD s (at + 8) 0) 10 e, d .0) in
+        let right : hasOne (lineFrom s at) ≡ true = one-word (drop at s) ∙ here in
+        let cut : lineFrom s at ≡ take 8 (drop at s) = rw (alone-line (drop at s) here) in
+        rw (right, cut, d .1)
 
   pub two-open : (getD s (at + 17) 0 ≡ 10 → ⊥) → hasTwo (lineFrom s at) ≡ false
   two-open h = two-words (drop at s) ∙ rw (getD-drop at s 17 0, ne-eqb (getD s (at + 17) 0) 10 h)
@@ -187,19 +225,30 @@ module _ (s : List ℕ) (at : ℕ) where
     two-apart h = two-words (drop at s) ∙ rw (getD-drop at s 17 0, eq-eqb (getD s (at + 17) 0) 10 e, getD-drop at s 8 0, ne-eqb (getD s (at + 8) 0) 32 h)
 
     module _ (f : getD s (at + 8) 0 ≡ 32) where
-      pub two-first : (leading isHex (take 8 (drop at s)) ≡ 8 → ⊥) → hasTwo (lineFrom s at) ≡ false
-      two-first h =
-          two-words (drop at s)
-          ∙ rw (getD-drop at s 17 0, eq-eqb (getD s (at + 17) 0) 10 e, getD-drop at s 8 0, eq-eqb (getD s (at + 8) 0) 32 f, ne-eqb (leading isHex (take 8 (drop at s))) 8 h)
+      pair-is : pair (drop at s) ≡ eqb (leading isHex (take 8 (drop at s))) 8 && eqb (leading isHex (take 8 (drop (at + 9) s))) 8
+      pair-is = rw (getD-drop at s 17 0, eq-eqb (getD s (at + 17) 0) 10 e, getD-drop at s 8 0, eq-eqb (getD s (at + 8) 0) 32 f, drop-drop 9 at s)
 
-      pub two-digits : leading isHex (take 8 (drop at s)) ≡ 8 → hasTwo (lineFrom s at) ≡ eqb (leading isHex (take 8 (drop (at + 9) s))) 8
-      two-digits g =
+      pub two-first : hexWord (take 8 (drop at s)) ≡ NotHex → hasTwo (lineFrom s at) ≡ false
+      two-first n =
+          let long = inside s (at + 17) 10 e (omega arith) in
+          two-words (drop at s) ∙ pair-is ∙ rw (ne-eqb (leading isHex (take 8 (drop at s))) 8 (word-other s at (omega arith) n))
+
+      pub two-second : hexWord (take 8 (drop (at + 9) s)) ≡ NotHex → hasTwo (lineFrom s at) ≡ false
+      two-second n =
+          let long = inside s (at + 17) 10 e (omega arith) in
           two-words (drop at s)
-          ∙ rw (
-            getD-drop at s 17 0,
-            eq-eqb (getD s (at + 17) 0) 10 e,
-            getD-drop at s 8 0,
-            eq-eqb (getD s (at + 8) 0) 32 f,
-            eq-eqb (leading isHex (take 8 (drop at s))) 8 g,
-            drop-drop 9 at s,
-          )
+          ∙ pair-is
+          ∙ rw (ne-eqb (leading isHex (take 8 (drop (at + 9) s))) 8 (word-other s (at + 9) (omega arith) n)) (and-false (eqb (leading isHex (take 8 (drop at s))) 8))
+
+      pub two-some : (v w : ℕ) → hexWord (take 8 (drop at s)) ≡ Number v → hexWord (take 8 (drop (at + 9) s)) ≡ Number w
+          → wordsIf (hasTwo (lineFrom s at)) (lineFrom s at) ≡ v ∷ w ∷ []
+      unfolding lineAt lineWords
+      two-some v w m n =
+          let long = inside s (at + 17) 10 e (omega arith) in
+          let one = word-digits s at (omega arith) v m in
+          let two = word-digits s (at + 9) (omega arith) w n in
+          let here : pair (drop at s) ≡ true = pair-is ∙ rw (one .0, two .0) in
+          let right : hasTwo (lineFrom s at) ≡ true = two-words (drop at s) ∙ here in
+          let other = two-not-one (lineFrom s at) right in
+          let cut : lineFrom s at ≡ take 17 (drop at s) = rw (pair-line (drop at s) here) in
+          rw (right, other, cut, take-take 8 17 (drop at s) (omega arith), drop-take 9 17 (drop at s), drop-drop 9 at s, one .1, two .1)

@@ -7,16 +7,16 @@ use mathlib.Core.Logic.{⊎-elim}
 use native.Mathlib.Omega.{arith}
 use borrow.Author.Tests.{eqb-true, eqb-false, lt-ltb, le-ltb}
 use lib.Dec.{eqb}
-use lib.ListN.{length, getD, take, drop}
+use lib.ListN.{length, take, drop}
 use lib.Seq.{take-take, drop-drop, length-take-le}
+use Rattle.base.specs.Hex.{hexNumber}
 use Rattle.base.specs.Lines.{Lines, behind, line, split, lineAt}
 use Rattle.base.specs.Lists.{over, tab}
 use Rattle.base.proofs.Bools.{either}
-use Rattle.base.proofs.ListLaws.{drop-take, tab-length, tab-at, tab-same}
+use Rattle.base.proofs.ListLaws.{drop-take, tab-length, tab-same}
 use Rattle.listing.specs.Listing.{hasOne, hasTwo, isDue, batches, listingOf}
-use Rattle.listing.specs.Words.{lineWords, wordsIn, wordsOf, wordAt}
+use Rattle.listing.specs.Words.{lineWords, wordsIn, wordsOf}
 use Rattle.listing.specs.Formed.{Formed}
-use Rattle.listing.specs.Scan.{wordsFrom}
 use Rattle.listing.specs.Answers.{readingOf, wordsRead, afterRead}
 use Rattle.listing.specs.declared.Fault.{Fault}
 use Rattle.listing.specs.declared.Fault.the-variants.{ShortBuffer}
@@ -24,7 +24,15 @@ use Rattle.listing.specs.declared.Listing.the-variants.{WellFormed, Decl
 use Rattle.listing.specs.declared.Reading.{Reading}
 use Rattle.listing.specs.declared.Reading.the-variants.{Words, Unread}
 use Rattle.listing.proofs.FirstLine.{alone, pair, alone-line, pair-line, pair-inside, one-word, two-words}
-use Rattle.listing.proofs.BatchLaws.{below-limit, line-formed, end-formed, batches-formed, listing-formed}
+use Rattle.listing.proofs.BatchLaws.{below-limit, line-formed, end-formed, batches-formed, listing-formed, listing-decoded}
+
+-- word k of a text, from 0, the preamble's counted: each word takes nine bytes, its eight digits and the byte behind them
+unfoldable pub wordAt : List ℕ → ℕ → ℕ
+wordAt s k = hexNumber 0 (take 8 (drop (9 * k) s))
+
+-- n words of a text, from word k on
+abbrev pub wordsFrom : List ℕ → ℕ → ℕ → List ℕ
+wordsFrom s k n = tab (λ i. wordAt s (k + i)) n
 
 line-parts : {l l' : List ℕ} {ls ls' : Lines} → line l ls ≡ line l' ls' → (l ≡ l') × (ls ≡ ls')
 line-parts e = (cc, cc)
@@ -105,12 +113,10 @@ words-indexed s p b e =
 
 pub formed : (s : List ℕ) (p b : ℕ) → listingOf s ≡ WellFormed p b → Formed s p b
 formed s p b e =
-    let words = words-indexed s p b e in
-    let word : ℕ → ℕ = λ i. wordAt s (2 * p + i) in
     record {
       limits = listing-formed s p b e .0;
-      count = ap length words ∙ tab-length word (17 * b);
-      each = λ k h. sym (ap (λ (ws : List ℕ). getD ws k 0) words ∙ tab-at word (17 * b) k 0 h);
+      count = ap length (words-indexed s p b e) ∙ tab-length (λ i. wordAt s (2 * p + i)) (17 * b);
+      decoded = listing-decoded s p b e;
     }
 
 -- ---- the answers of reading
@@ -123,7 +129,7 @@ module _ (s old : List ℕ) where
     pub read-short : length old < 17 * b → (Unread ShortBuffer ≡ readingOf s (length old)) × (old ≡ afterRead s old)
     read-short h = let short = lt-ltb (length old) (17 * b) h in (rw (e, short), rw (e, short))
 
-    pub read-words : 17 * b ≤ length old → (Words (17 * b) ≡ readingOf s (length old)) × (over old (wordsFrom s (2 * p) (17 * b)) ≡ afterRead s old)
+    pub read-words : 17 * b ≤ length old → (Words (17 * b) ≡ readingOf s (length old)) × (over old (wordsOf s) ≡ afterRead s old)
     read-words h =
         let answer : Words (17 * b) ≡ readingOf s (length old) = rw (e, le-ltb (length old) (17 * b) h) in
-        (answer, ap (over old) (sym (words-indexed s p b e)) ∙ ap (λ (a : Reading). over old (wordsRead s a)) answer)
+        (answer, ap (λ (a : Reading). over old (wordsRead s a)) answer)

@@ -2,4 +2,5 @@ pub mod FirstLine
 pub mod BatchLaws
 pub mod Indexed
 pub mod TextLaws
+pub mod Decoding
 pub mod Back

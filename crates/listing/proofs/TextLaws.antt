@@ -1,17 +1,16 @@
 -- Laws of a transmission's text: its length, its words by index, one word more. Assumes nothing.
-use Prim.Native.Nat.{ℕ, zero, suc, _+_, _*_, _/_, _^_, _≤_, _<_}
+use Prim.Native.Nat.{ℕ, zero, suc, _+_, _*_, _≤_, _<_}
 use mathlib.Core.Path.{_≡_, refl, ap, sym, _∙_}
 use mathlib.Core.List.{List, [], _∷_, _++_, append-assoc}
 use native.Mathlib.Numerals.{add-one}
 use native.Mathlib.Omega.{arith}
-use lib.ListN.{length, getD, set, take, drop, length-append, drop-of-length-le}
+use lib.ListN.{length, getD, set, take, drop, length-append}
 use lib.Seq.{take-suc, length-take-le}
 use Rattle.base.specs.Hex.{digitsOf}
 use Rattle.base.specs.Lists.{over}
-use Rattle.base.proofs.HexLaws.{digits-length, digits-back}
+use Rattle.base.proofs.HexLaws.{digits-length}
 use Rattle.base.proofs.ListLaws.{over-byte, over-part}
 use Rattle.listing.specs.Text.{endOf, textFrom, textOf}
-use Rattle.listing.specs.Words.{wordAt}
 
 pub text-length : (k : ℕ) (ws : List ℕ) → length (textFrom k ws) ≡ 9 * length ws
 unfolding digitsOf textFrom
@@ -60,15 +59,3 @@ text-written old ws k n {out} {p} {v} e h room digits eight end =
     let part = over-part old before p (9 * k) n e size (omega arith) in
     over-byte old (before ++ p) (9 * k + 8) v part (omega (arith, length-append before p)) (omega arith)
     ∙ rw (text-more ws k h, digits, end)
-
--- no word stands behind the end
-pub word-behind : (s : List ℕ) (k : ℕ) → length s ≤ 9 * k → wordAt s k ≡ 0
-unfolding wordAt
-word-behind s k h = rw (drop-of-length-le s {i = 9 * k} h)
-
--- a word is read back
-pub word-back : (ws : List ℕ) (k : ℕ) → k < length ws → getD ws k 0 < 2 ^ 32 → wordAt (textOf ws) k ≡ getD ws k 0
-unfolding wordAt
-word-back ws k h small =
-    let z : getD ws k 0 / 16 ^ 8 ≡ 0 = omega arith in
-    rw (text-digits 0 ws k h) (rw z at (digits-back 8 (getD ws k 0)))

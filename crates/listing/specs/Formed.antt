@@ -1,9 +1,9 @@
 -- What holds of every well-formed listing.
-use Prim.Native.Nat.{ℕ, _+_, _*_, _≤_, _<_}
+use Prim.Native.Nat.{ℕ, _*_, _≤_}
 use mathlib.Core.Path.{_≡_}
 use mathlib.Core.List.{List}
-use lib.ListN.{length, getD}
-use Rattle.listing.specs.Words.{wordsOf, wordAt}
+use lib.ListN.{length}
+use Rattle.listing.specs.Words.{wordsOf, wordsDecoded}
 
 -- 9 to 36 preamble lines, and 1 to 300 batches
 pub record Limits (p b : ℕ) : Type 0 where
@@ -12,9 +12,8 @@ pub record Limits (p b : ℕ) : Type 0 where
   pub some : 1 ≤ b
   pub few : b ≤ 300
 
--- a listing with p preamble lines and b batches has 17 words a batch, and each can be had by its place in the text, behind the
--- two words of each preamble line
+-- a listing with p preamble lines and b batches has 17 words a batch, and `decode` writes them all
 pub record Formed (s : List ℕ) (p b : ℕ) : Type 0 where
   pub limits : Limits p b
   pub count : length (wordsOf s) ≡ 17 * b
-  pub each : (k : ℕ) → k < 17 * b → wordAt s (2 * p + k) ≡ getD (wordsOf s) k 0
+  pub decoded : wordsDecoded s ≡ wordsOf s

@@ -1,11 +1,12 @@
 -- The words of a listing (document 01, "Listings and reading").
-use Prim.Native.Nat.{ℕ, _*_}
+use Prim.Native.Nat.{ℕ, _+_}
 use mathlib.Core.List.{List, [], _∷_, _++_}
-use mathlib.Core.Bool.{cond}
+use mathlib.Core.Bool.{cond, _&&_, not}
 use lib.ListN.{take, drop}
+use lib.Dec.{ltb, eqb}
 use Rattle.base.specs.Hex.{hexNumber}
 use Rattle.base.specs.Lines.{Lines, behind, line, split}
-use Rattle.listing.specs.Listing.{hasOne, skip, listingOf}
+use Rattle.listing.specs.Listing.{hasOne, preambleOf, skip, isDue, listingOf}
 use Rattle.listing.specs.declared.Listing.{Listing}
 use Rattle.listing.specs.declared.Listing.the-variants.{WellFormed, Declined}
 
@@ -27,6 +28,14 @@ batchWords s (Declined why) = []
 abbrev pub wordsOf : List ℕ → List ℕ
 wordsOf s = batchWords s (listingOf s)
 
--- word k of a text, from 0, the preamble's counted: each word takes nine bytes, its eight digits and the byte behind them
-unfoldable pub wordAt : List ℕ → ℕ → ℕ
-wordAt s k = hexNumber 0 (take 8 (drop (9 * k) s))
+-- behind q lines of batches, the words of the lines that are right, up to the first that is not
+unfoldable pub wordsMet : ℕ → Lines → List ℕ
+wordsMet q (behind t) = []
+wordsMet q (line l ls) = cond (isDue q l && not (eqb q 2700)) (lineWords l ++ wordsMet (q + 1) ls) []
+
+-- the words that `decode` writes: those of the batches, up to the first line that is not right, behind p preamble lines, 9 at least
+abbrev pub metBehind : ℕ → Lines → List ℕ
+metBehind p ls = cond (ltb p 9) [] (wordsMet 0 (skip p ls))
+
+unfoldable pub wordsDecoded : List ℕ → List ℕ
+wordsDecoded s = metBehind (preambleOf (split s)) (split s)

@@ -1,14 +1,17 @@
 // A transmission as text, and the words of such a text (document 01, "Listings and reading").
 ghost use mathlib.Core.Path.{_≡_};
-ghost use Prim.Native.Nat.{_+_, _≤_};
-ghost use lib.ListN.{length};
+ghost use mathlib.Core.Bool.{cond};
+ghost use Prim.Native.Nat.{_*_, _≤_};
+ghost use lib.ListN.{length, drop};
 ghost use Rattle.base.specs.Lines.{split};
 ghost use Rattle.base.specs.Lists.{over};
 ghost use Rattle.listing.specs.Text.{endOf};
-ghost use Rattle.listing.specs.Listing.{hasOne, hasTwo, preambleOf, isDue, listingOf};
-ghost use Rattle.listing.specs.Words.{wordAt};
+ghost use Rattle.listing.specs.Listing.{hasOne, hasTwo, preambleOf, isDue, batches, listingOf};
+ghost use Rattle.listing.specs.Words.{wordsMet, wordsDecoded};
 ghost use Rattle.listing.specs.Answers.{numberOf, placeOf, readingOf, afterRead, writingOf, afterWrite};
-ghost use Rattle.listing.specs.Scan.{lineFrom, lineBytes, wordsFrom};
+ghost use Rattle.listing.specs.Scan.{lineFrom, wordsIf};
+ghost use Rattle.listing.specs.declared.Fault.the-variants.{Malformed, TooMany};
+use base::HexWord;
 
 // Why a call is declined. A line is counted from 1.
 pub enum Fault {
@@ -61,42 +64,54 @@ pub fn place(why: Fault) -> usize
     }
 }
 
-// Whether the line that starts at a byte has a word alone. Here and in `has_two` the digits come last, so that checking reads no digit twice.
-fn has_one(s: &[u8], at: usize) -> bool
-    requires { ⌜ at ≤ length (now s) ⌝ }
-    ensures { λ r. ⌜ r ≡ hasOne (lineFrom (now (s .entry)) at) ⌝ }
+// Writes the word of the line that starts at a byte, where it has a word alone, and answers how many words are written. Here and in
+// `read_two` the digits come last, so that none is read before the line has its form.
+fn read_one(s: &[u8], at: usize, words: &mut [u32]) -> usize
+    requires { ⌜ (at ≤ length (now s)) × (1 ≤ length (now words)) ⌝ }
+    ensures { λ r. ⌜ r ≡ length (wordsIf (hasOne (lineFrom (now (s .entry)) at)) (lineFrom (now (s .entry)) at)) ⌝ }
+    ensures { λ _. ⌜ now (words .exit) ≡ over (now (words .entry)) (wordsIf (hasOne (lineFrom (now (s .entry)) at)) (lineFrom (now (s .entry)) at)) ⌝ }
 {
     if s.len() - at <= 8 {
-        return false;
+        return 0;
     }
     let end = at + 8;
     if s[end] != b'\n' {
-        return false;
+        return 0;
     }
-    base::hex_run(&s[at..end]) == 8
+    let HexWord::Number(word) = base::hex_word(&s[at..end]) else {
+        return 0;
+    };
+    words[0] = word;
+    1
 }
 
-// Whether the line that starts at a byte has two words with a space between.
-fn has_two(s: &[u8], at: usize) -> bool
-    requires { ⌜ at ≤ length (now s) ⌝ }
-    ensures { λ r. ⌜ r ≡ hasTwo (lineFrom (now (s .entry)) at) ⌝ }
+// Writes the words of the line that starts at a byte, where it has two with a space between, and answers how many words are written.
+fn read_two(s: &[u8], at: usize, words: &mut [u32]) -> usize
+    requires { ⌜ (at ≤ length (now s)) × (2 ≤ length (now words)) ⌝ }
+    ensures { λ r. ⌜ r ≡ length (wordsIf (hasTwo (lineFrom (now (s .entry)) at)) (lineFrom (now (s .entry)) at)) ⌝ }
+    ensures { λ _. ⌜ now (words .exit) ≡ over (now (words .entry)) (wordsIf (hasTwo (lineFrom (now (s .entry)) at)) (lineFrom (now (s .entry)) at)) ⌝ }
 {
     if s.len() - at <= 17 {
-        return false;
+        return 0;
     }
     let space = at + 8;
     let second = at + 9;
     let stop = at + 17;
     if s[stop] != b'\n' {
-        return false;
+        return 0;
     }
     if s[space] != b' ' {
-        return false;
+        return 0;
     }
-    if base::hex_run(&s[at..space]) != 8 {
-        return false;
-    }
-    base::hex_run(&s[second..stop]) == 8
+    let HexWord::Number(one) = base::hex_word(&s[at..space]) else {
+        return 0;
+    };
+    let HexWord::Number(two) = base::hex_word(&s[second..stop]) else {
+        return 0;
+    };
+    words[0] = one;
+    words[1] = two;
+    2
 }
 
 // How many preamble lines a text begins with, counted up to 36.
@@ -105,7 +120,8 @@ fn preamble_lines(s: &[u8]) -> usize
 {
     let mut p = 0;
     while p < 36 {
-        if !has_two(s, 18 * p) {
+        let mut frame = [0u32; 2];
+        if read_two(s, 18 * p, &mut frame) == 0 {
             return p;
         }
         p += 1;
@@ -113,46 +129,51 @@ fn preamble_lines(s: &[u8]) -> usize
     p
 }
 
-// Whether line q of the batches, which starts at a byte, has its words.
-fn is_due(s: &[u8], at: usize, q: usize) -> bool
+// Writes the words of line q of the batches, which starts at a byte, and answers how many they are: none where the line has not the
+// words that are due.
+fn read_line(s: &[u8], at: usize, q: usize, words: &mut [u32]) -> usize
+    requires { ⌜ (at ≤ length (now s)) × (2 ≤ length (now words)) ⌝ }
+    ensures { λ r. ⌜ r ≡ length (wordsIf (isDue q (lineFrom (now (s .entry)) at)) (lineFrom (now (s .entry)) at)) ⌝ }
+    ensures { λ _. ⌜ now (words .exit) ≡ over (now (words .entry)) (wordsIf (isDue q (lineFrom (now (s .entry)) at)) (lineFrom (now (s .entry)) at)) ⌝ }
+{
+    if q % 9 == 0 {
+        return read_one(s, at, words);
+    }
+    read_two(s, at, words)
+}
+
+// The fault of a line behind 300 batches: a 301st begins with it, or it is malformed.
+fn fault_behind(s: &[u8], at: usize, line: usize) -> Fault
     requires { ⌜ at ≤ length (now s) ⌝ }
-    ensures { λ r. ⌜ r ≡ isDue q (lineFrom (now (s .entry)) at) ⌝ }
+    ensures { λ r. ⌜ r ≡ cond (hasOne (lineFrom (now (s .entry)) at)) (TooMany line) (Malformed line) ⌝ }
 {
-    if q % 9 == 0 {
-        return has_one(s, at);
+    let mut sync = [0u32; 1];
+    if read_one(s, at, &mut sync) == 0 {
+        return Fault::Malformed(line);
     }
-    has_two(s, at)
+    Fault::TooMany(line)
 }
 
-// How many bytes line q of the batches takes.
-fn line_bytes(q: usize) -> usize
-    ensures { λ r. ⌜ r ≡ lineBytes q ⌝ }
+// Reads the batches behind p preamble lines, up to the first line that is not right, and writes their words.
+fn read_batches(s: &[u8], p: usize, words: &mut [u32]) -> Listing
+    requires { ⌜ (p ≤ 36) × (18 * p ≤ length (now s)) × (5100 ≤ length (now words)) ⌝ }
+    ensures { λ r. ⌜ r ≡ batches p 0 (split (drop (18 * p) (now (s .entry)))) ⌝ }
+    ensures { λ _. ⌜ now (words .exit) ≡ over (now (words .entry)) (wordsMet 0 (split (drop (18 * p) (now (s .entry))))) ⌝ }
 {
-    if q % 9 == 0 {
-        return 9;
-    }
-    18
-}
-
-// A listing's preamble lines and batches, or the fault of the first line that is not right.
-pub fn check(s: &[u8]) -> Listing
-    ensures { λ r. ⌜ r ≡ listingOf (now (s .entry)) ⌝ }
-{
-    let p = preamble_lines(s);
-    if p < 9 {
-        return Listing::Declined(Fault::Malformed(p + 1));
-    }
     let mut at = 18 * p;
+    let mut k = 0;
     let mut q = 0;
     while at < s.len() {
         let line = p + q + 1;
-        if !is_due(s, at, q) {
+        if q == 2700 {
+            return Listing::Declined(fault_behind(s, at, line));
+        }
+        let n = read_line(s, at, q, &mut words[k..]);
+        if n == 0 {
             return Listing::Declined(Fault::Malformed(line));
         }
-        if q == 2700 {
-            return Listing::Declined(Fault::TooMany(line));
-        }
-        at += line_bytes(q);
+        at += 9 * n;
+        k += n;
         q += 1;
     }
     if q == 0 {
@@ -167,48 +188,43 @@ pub fn check(s: &[u8]) -> Listing
     }
 }
 
-// Word k of a text, counted from 0 with those of the preamble; 0 behind the end.
-pub fn word(s: &[u8], k: usize) -> u32
-    ensures { λ r. ⌜ r ≡ wordAt (now (s .entry)) k ⌝ }
+// A listing's preamble lines and batches, or the fault of the first line that is not right. The batches' words are written over the
+// front of the array as they are read, also those before a fault: who calls this lends an array of its own. Each digit is read once.
+pub fn decode(s: &[u8], words: &mut [u32; 5100]) -> Listing
+    ensures { λ r. ⌜ r ≡ listingOf (now (s .entry)) ⌝ }
+    ensures { λ _. ⌜ now (words .exit) ≡ over (now (words .entry)) (wordsDecoded (now (s .entry))) ⌝ }
 {
-    if s.len() / 9 < k {
-        return 0;
+    let p = preamble_lines(s);
+    if p < 9 {
+        return Listing::Declined(Fault::Malformed(p + 1));
     }
-    let first = 9 * k;
-    if s.len() - first < 8 {
-        return base::hex_number(&s[first..]);
-    }
-    let behind = first + 8;
-    base::hex_number(&s[first..behind])
+    read_batches(s, p, words)
 }
 
-// Writes n words of a text, from word k on.
-fn fill(s: &[u8], k: usize, n: usize, words: &mut [u32])
-    requires { ⌜ (k + n ≤ 10000) × (n ≤ length (now words)) ⌝ }
-    ensures { λ _. ⌜ now (words .exit) ≡ over (now (words .entry)) (wordsFrom (now (s .entry)) k n) ⌝ }
-{
-    let mut i = 0;
-    while i < n {
-        words[i] = word(s, k + i);
-        i += 1;
-    }
+// Room for the words of 300 batches.
+fn blank_words() -> [u32; 5100] {
+    [0u32; 5100]
 }
 
-// Writes the words of a listing's batches, and answers how many they are. What stands behind them keeps its value. Each digit is
-// read twice, once to check it: nothing may be written before the whole listing is known to be right.
+// Writes the words of a listing's batches, and answers how many they are. What stands behind them keeps its value. They are decoded
+// into an array of its own first: nothing may be written before the whole listing is known to be right.
 pub fn read(s: &[u8], words: &mut [u32]) -> Reading
     ensures { λ r. ⌜ r ≡ readingOf (now (s .entry)) (length (now (words .entry))) ⌝ }
     ensures { λ _. ⌜ now (words .exit) ≡ afterRead (now (s .entry)) (now (words .entry)) ⌝ }
 {
-    let l = check(s);
+    let mut decoded = blank_words();
+    let l = decode(s, &mut decoded);
     match l {
         Listing::Declined(why) => Reading::Unread(why),
-        Listing::WellFormed { preamble, batches } => {
+        Listing::WellFormed {
+            preamble: _,
+            batches,
+        } => {
             let n = 17 * batches;
             if words.len() < n {
                 return Reading::Unread(Fault::ShortBuffer);
             }
-            fill(s, 2 * preamble, n, words);
+            base::copy_front(&decoded[..n], words);
             Reading::Words(n)
         }
     }
