@@ -12,12 +12,8 @@ use Rattle.base.proofs.SearchLaws.{least-only}
 use Rattle.codeword.specs.Nearest.{nearest}
 use Rattle.listing.specs.Listing.{listingOf}
 use Rattle.listing.specs.Words.{wordsOf}
-use Rattle.listing.specs.Answers.{readInto, readingOf}
 use Rattle.listing.specs.declared.Fault as listing-fault
-use Rattle.listing.specs.declared.Listing.{Listing}
 use Rattle.listing.specs.declared.Listing.the-variants as listing
-use Rattle.listing.specs.declared.Reading.the-variants as listing-reading
-use Rattle.listing.proofs.Indexed.{formed}
 use Rattle.reader.specs.Meaning.{meaning}
 use Rattle.reader.specs.Reading.{hear, readAt, ended, slotWord, heardIn}
 use Rattle.reader.specs.Lines.{linesHeard}
@@ -108,43 +104,13 @@ module _ (words : List ℕ) where
         unfolding readWords
         words-read h = rw (ne-eqb (length words) 0 some, eq-eqb (length words % 17) 0 whole, le-ltb 300 (length words / 17) h)
 
--- ---- a listing, whose words are read into room for those of 300 batches
+-- ---- a listing
 
--- they are there
-pub record Words (s : List ℕ) (n : ℕ) : Type 0 where
-  pub count : n ≡ length (wordsOf s)
-  pub few : n ≤ 5100
-  pub read : (room : ℕ) → readBatches (wordsOf s) room ≡ readListing s room
-
-module _ (s : List ℕ) where
-  well-formed : (p b : ℕ) → listingOf s ≡ listing.WellFormed p b → readingOf s 5100 ≡ listing-reading.Words (17 * b)
-  well-formed p b e = rw (e, le-ltb 5100 (17 * b) (omega (arith, formed s p b e .limits .few)))
-
-  pub listing-read : (n : ℕ) → listing-reading.Words n ≡ readingOf s 5100 → Words s n
+module _ (s : List ℕ) (room : ℕ) where
+  pub listing-read : (p b : ℕ) → listingOf s ≡ listing.WellFormed p b → readBatches (wordsOf s) room ≡ readListing s room
   unfolding readListing
-  listing-read n = go (listingOf s) refl
-    where
-      go : (l : Listing) → listingOf s ≡ l → listing-reading.Words n ≡ readingOf s 5100 → Words s n
-      go (listing.WellFormed p b) e q =
-          let f = formed s p b e in
-          let same = q ∙ well-formed p b e in
-          let count : n ≡ 17 * b = cc in
-          record { count = count ∙ sym (f .count); few = omega (arith, f .limits .few); read = λ room. rw e }
-      go (listing.Declined why) e q =
-          let other : listing-reading.Words n ≡ listing-reading.Unread why = q ∙ ap (readInto 5100) e in
-          let z : _≡_ {A = ℕ} 0 1 = cc in
-          absurd (omega arith)
+  listing-read p b e = rw e
 
-  pub listing-declined : (why : listing-fault.Fault) (room : ℕ) → listing-reading.Unread why ≡ readingOf s 5100 → Declined (faultOf why) ≡ readListing s room
+  pub listing-declined : (why : listing-fault.Fault) → listingOf s ≡ listing.Declined why → Declined (faultOf why) ≡ readListing s room
   unfolding readListing
-  listing-declined why room = go (listingOf s) refl
-    where
-      go : (l : Listing) → listingOf s ≡ l → listing-reading.Unread why ≡ readingOf s 5100 → Declined (faultOf why) ≡ readListing s room
-      go (listing.WellFormed p b) e q =
-          let other : listing-reading.Unread why ≡ listing-reading.Words (17 * b) = q ∙ well-formed p b e in
-          let z : _≡_ {A = ℕ} 0 1 = cc in
-          absurd (omega arith)
-      go (listing.Declined w) e q =
-          let both : listing-reading.Unread why ≡ listing-reading.Unread w = q ∙ ap (readInto 5100) e in
-          let same : why ≡ w = cc in
-          rw e (ap (λ (f : listing-fault.Fault). Declined (faultOf f)) same)
+  listing-declined why e = rw e

@@ -482,10 +482,16 @@ pub fn read_listing(listing: &[u8], out: &mut [u8]) -> Reading
     ensures { λ r. ⌜ now (out .exit) ≡ over (now (out .entry)) (linesRead r (wordsOf (now (listing .entry)))) ⌝ }
 {
     let mut words = blank_words();
-    let l = listing::read(listing, &mut words);
+    let l = listing::decode(listing, &mut words);
     match l {
-        listing::Reading::Words(n) => read_batches(&words[..n], out),
-        listing::Reading::Unread(why) => Reading::Declined(fault_of(why)),
+        listing::Listing::WellFormed {
+            preamble: _,
+            batches,
+        } => {
+            let n = 17 * batches;
+            read_batches(&words[..n], out)
+        }
+        listing::Listing::Declined(why) => Reading::Declined(fault_of(why)),
     }
 }
 

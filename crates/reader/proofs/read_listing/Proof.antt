@@ -1,73 +1,81 @@
 -- `reader::read_listing` meets its contract. Assumes nothing.
 use mathlib.Core.Path.{_≡_, refl, sym, ap, _∙_}
 use mathlib.Core.List.{List}
-use Prim.Native.Nat.{ℕ, _≤_}
+use Prim.Native.Nat.{ℕ, _*_, _≤_}
 use native.Mathlib.Omega.{arith}
 use lib.ListN.{length, take}
 use lib.Seq.{length-take-le}
 use denote.Ref.{now}
 use borrow.Author.Needs.{needs}
 use Rattle.base.specs.Lists.{over}
+use Rattle.listing.specs.Listing.{listingOf}
 use Rattle.listing.specs.Words.{wordsOf}
-use Rattle.listing.specs.Answers.{readingOf, wordsRead}
-use Rattle.listing.specs.declared.Reading.{Reading}
+use Rattle.listing.specs.Formed.{Formed}
+use Rattle.listing.specs.declared.Listing.the-variants.{WellFormed}
+use Rattle.listing.proofs.Indexed.{formed}
 use Rattle.reader.specs.Answers.{readBatches, linesRead}
 use Rattle.reader.specs.declared.Reading.the-variants.{Declined}
 use Rattle.reader.proofs.OverLaws.{front-inside, front-is}
-use Rattle.reader.proofs.AnswerLaws.{Words, listing-read, listing-declined}
+use Rattle.reader.proofs.AnswerLaws.{listing-read, listing-declined}
 use Rattle.reader.proofs.read_listing.Statement.{statement}
 use Rattle.reader.proofs.read_listing.Tie as tie
 
--- the room for the words of 300 batches
-room : (c : tie.After-blank-words) → length (c .blank-words .result) ≡ 5100
-room c = search needs
-
--- the answer of reading a listing's words
-answer : (c : tie.After-read) → c .read .result ≡ readingOf (now (c .before .before .before .before .before .args .listing)) 5100
-answer c = c .read .ensures .0 ∙ ap (readingOf (now (c .before .before .before .before .before .args .listing))) (room (c .before .before))
-
+-- a listing that is well formed
 module _ (c : tie.After-l) where
   abbrev start : tie.Start
-  start = c .before .before .before .before .before .before .before .before
+  start = c .before .before .before .before .before .before .before
 
   abbrev text : List ℕ
   text = now (start .args .listing)
 
-  abbrev n : ℕ
-  n = c .l .given .0 .0
+  abbrev p : ℕ
+  p = c .l .given .0 .0
 
-  there : Words text n
-  there = listing-read text n (sym (c .l .given .1) ∙ answer (c .before .before .before))
+  abbrev b : ℕ
+  b = c .l .given .0 .1 .0
 
-  written : c .before .before .before .read .last .1 .0 ≡ over (c .before .before .before .before .before .blank-words .result) (wordsOf text)
-  written = c .before .before .before .read .ensures .1 ∙ ap (λ (r : Reading). over (c .before .before .before .before .before .blank-words .result) (wordsRead text r)) (sym (c .before .before .before .read .ensures .0) ∙ c .l .given .1)
+  -- the room for its words, and what is decoded there
+  abbrev blank : List ℕ
+  blank = c .before .before .before .before .blank-words .result
 
-  inside : n ≤ length (c .before .before .before .read .last .1 .0)
-  inside = front-inside (c .before .before .before .before .before .blank-words .result) (wordsOf text) n (there .count) written
+  abbrev decoded : List ℕ
+  decoded = c .before .before .decode .last .1 .0
 
-  words : take n (c .before .before .before .read .last .1 .0) ≡ wordsOf text
-  words = front-is (c .before .before .before .before .before .blank-words .result) (wordsOf text) n (there .count) written
+  form : listingOf text ≡ WellFormed p b
+  form = sym (c .before .before .decode .ensures .0) ∙ c .l .given .1
+
+  there : Formed text p b
+  there = formed text p b form
+
+  written : decoded ≡ over blank (wordsOf text)
+  written = c .before .before .decode .ensures .1 ∙ ap (over blank) (there .decoded)
+
+  inside : 17 * b ≤ length decoded
+  inside = front-inside blank (wordsOf text) (17 * b) (sym (there .count)) written
+
+  words : take (17 * b) decoded ≡ wordsOf text
+  words = front-is blank (wordsOf text) (17 * b) (sym (there .count)) written
 
 blank-words-requires : tie.Need-blank-words-requires
 blank-words-requires c κs = search needs
 
-slice-aggregate-read : tie.Need-slice-aggregate-read
-slice-aggregate-read c = search needs
-
-read-requires : tie.Need-read-requires
-read-requires c κs = search needs
+decode-requires : tie.Need-decode-requires
+decode-requires c κs = search needs
 
 enum-known-l : tie.Need-enum-known-l
 enum-known-l c = search needs
+
+mul-n : tie.Need-mul-n
+mul-n c = omega (arith, there (c .before) .limits .few)
 
 array-share-prefix-words : tie.Need-array-share-prefix-words
 array-share-prefix-words c = inside (c .before)
 
 slice-aggregate-read-batches : tie.Need-slice-aggregate-read-batches
-slice-aggregate-read-batches c = sym (length-take-le (n (c .before .before)) (c .before .before .before .before .before .read .last .1 .0) (inside (c .before .before)))
+slice-aggregate-read-batches c = let at = c .before .before in sym (length-take-le (17 * b at) (decoded at) (inside at))
 
 read-batches-requires : tie.Need-read-batches-requires
-read-batches-requires c κs = omega (arith, ap length (words (c .before .before .before)), there (c .before .before .before) .count, there (c .before .before .before) .few)
+read-batches-requires c κs = let at = c .before .before .before in omega (arith, ap length (words at), there at .count, there at .limits .few)
 
 enum-known-l-2 : tie.Need-enum-known-l-2
 enum-known-l-2 c = search needs
@@ -80,17 +88,18 @@ same-length c = search needs
 
 returns : tie.Need-returns
 returns c =
-    let a = c .before .before .before .before .before .before .before .before .before .before .before .before .before .before .args in
-    let e = c .before .before .before .before .before .before in
-    let r = c .before .before .read-batches in
-    let room = length (now (a .out)) in
-    (r .ensures .0 ∙ ap (λ (w : List ℕ). readBatches w room) (words e) ∙ there e .read room, r .ensures .1 ∙ ap (λ (w : List ℕ). over (now (a .out)) (linesRead (r .result) w)) (words e))
+    let r = c .before .before in
+    let at = r .before .before .before .before in
+    let out = now (start at .args .out) in (
+      r .read-batches .ensures .0 ∙ ap (λ (w : List ℕ). readBatches w (length out)) (words at) ∙ listing-read (text at) (length out) (p at) (b at) (form at),
+      r .read-batches .ensures .1 ∙ ap (λ (w : List ℕ). over out (linesRead (r .read-batches .result) w)) (words at),
+    )
 
 returns-2 : tie.Need-returns-2
 returns-2 c =
-    let a = c .before .before .before .before .before .before .before .before .before .before .args in
-    let read = c .before .before .before .before .before in
-    let declined = listing-declined (now (a .listing)) _ (length (now (a .out))) (sym (c .before .before .l2 .given .1) ∙ answer read) in
+    let at = c .before .before in
+    let a = at .before .before .before .before .before .before .before .args in
+    let declined = listing-declined (now (a .listing)) (length (now (a .out))) _ (sym (at .before .before .decode .ensures .0) ∙ at .l2 .given .1) in
     (ap Declined (c .fault-of .ensures) ∙ declined, refl)
 
 pub read-listing-spec : {M : Type 1} → statement M
@@ -98,9 +107,9 @@ read-listing-spec =
     tie.close
     (tie.spec
     blank-words-requires
-    slice-aggregate-read
-    read-requires
+    decode-requires
     enum-known-l
+    mul-n
     array-share-prefix-words
     slice-aggregate-read-batches
     read-batches-requires
