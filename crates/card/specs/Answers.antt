@@ -16,14 +16,12 @@ use Rattle.sender.specs.Answer as step
 use Rattle.sender.specs.declared.Answer.{Answer}
 use Rattle.sender.specs.declared.Answer.the-variants as answer
 use Rattle.sender.specs.declared.Sender.{Sender}
-use Rattle.sender.specs.declared.Started.{Started}
 use Rattle.card.specs.declared.CardWord.{CardWord}
 use Rattle.card.specs.declared.CardReport.{CardReport}
 use Rattle.card.specs.declared.CardBytes.{CardBytes}
 use Rattle.card.specs.declared.CardReading.{CardReading}
 use Rattle.card.specs.declared.CardRefusal.{CardRefusal}
 use Rattle.card.specs.declared.CardStep.{CardStep}
-use Rattle.card.specs.declared.Begun.{Begun}
 
 -- a word by its nearest codeword, or itself and number 20 where there is none
 abbrev pub wordFor : ℕ → Option ℕ → CardWord
@@ -93,7 +91,3 @@ doneSaid answer.Refused = 0
 
 abbrev pub stepFor : Answer → CardStep
 stepFor a = record { word = wordSaid a; done = doneSaid a; number = step.numberOf a }
-
--- what starting a job leaves: its answer, and the caller's state, which was old
-abbrev pub begunFor : Started → Sender → Begun
-begunFor s old = record { refusal = refusalFor (s .answer); state = stateFor (s .answer) (s .state) old }

@@ -9,13 +9,15 @@ ghost use Rattle.job_listing.specs.Listed.{listingText, listedOf, bytesListed};
 ghost use Rattle.listing.specs.Words.{wordsOf};
 ghost use Rattle.reader.specs.Answers.{readWords, readListing, linesRead};
 ghost use Rattle.sender.specs.Start.{startedOf};
-ghost use Rattle.sender.specs.Step.{stepOf};
-ghost use Rattle.card.specs.Answers.{wordFor, reportFor, bytesFor, readingFor, refusalFor, stateFor, stepFor, begunFor};
+ghost use Rattle.sender.specs.Step.{stateFrom, stepOf};
+ghost use Rattle.card.specs.Answers.{wordFor, reportFor, bytesFor, readingFor, refusalFor, stateFor, stepFor};
 use codeword::Correction;
 use job::JobAnswer;
 use job_listing::Listed;
 use reader::Reading;
 use sender::Answer;
+use sender::Cursor;
+use sender::PageTable;
 use sender::Sender;
 use transmission::Report;
 
@@ -69,10 +71,12 @@ pub struct CardStep {
     pub number: u32,
 }
 
-// The answer to a job, and the state that the caller then keeps.
+// The answer to a job, and the state that the caller then keeps, without the message words.
 struct Begun {
     refusal: CardRefusal,
-    state: Sender,
+    cursor: Cursor,
+    pages: PageTable,
+    sent: [u8; 48],
 }
 
 // The codeword at most two bits away from a word, or the word itself and number 20.
@@ -217,12 +221,19 @@ pub extern "C" fn card_read_listing(listing: &[u8], out: &mut [u8]) -> CardReadi
     reading_numbers(reading)
 }
 
-// A job started over a state that was old.
-fn begin(job: &[u8], old: Sender) -> Begun
-    ensures { λ r. ⌜ r ≡ begunFor (startedOf (now (job .entry))) old ⌝ }
+// A job started over a state of this cursor, these pages and these flags, whose message words are lent: a declined job leaves all
+// as it was.
+fn begin(
+    job: &[u8],
+    cursor: Cursor,
+    table: PageTable,
+    sent: [u8; 48],
+    words: &mut [u32; 4032],
+) -> Begun
+    ensures { λ r. ⌜ (r .refusal ≡ refusalFor (startedOf (now (job .entry)) .answer)) × (stateFrom (r .pages) (r .sent) (r .cursor) (now (words .exit)) ≡ stateFor (startedOf (now (job .entry)) .answer) (startedOf (now (job .entry)) .state) (stateFrom table sent cursor (now (words .entry)))) ⌝ }
 {
-    let started = sender::start(job);
-    let answer = started.answer;
+    let opening = sender::start_with(job, words);
+    let answer = opening.answer;
     let place = job::place(answer);
     let number = job::number(answer);
     let refusal = CardRefusal {
@@ -231,27 +242,37 @@ fn begin(job: &[u8], old: Sender) -> Begun
     };
     match answer {
         JobAnswer::Accepted(_) => {
-            let state = started.state;
+            let first = opening.cursor;
+            let laid = opening.pages;
+            let unsent = opening.sent;
             Begun {
                 refusal: refusal,
-                state: state,
+                cursor: first,
+                pages: laid,
+                sent: unsent,
             }
         }
         JobAnswer::Refused { why: _, place: _ } => Begun {
             refusal: refusal,
-            state: old,
+            cursor: cursor,
+            pages: table,
+            sent: sent,
         },
     }
 }
 
-// Starts a job's sending in the state that the caller keeps.
+// Starts a job's sending in the state that the caller keeps. The message words are written where they lie.
 #[no_mangle]
 pub extern "C" fn card_start(job: &[u8], state: &mut Sender) -> CardRefusal
     ensures { λ r. ⌜ (r ≡ refusalFor (startedOf (now (job .entry)) .answer)) × (now (state .exit) ≡ stateFor (startedOf (now (job .entry)) .answer) (startedOf (now (job .entry)) .state) (now (state .entry))) ⌝ }
 {
-    let old = *state;
-    let begun = begin(job, old);
-    *state = begun.state;
+    let cursor = state.cursor;
+    let pages = state.pages;
+    let sent = state.sent;
+    let begun = begin(job, cursor, pages, sent, &mut state.words);
+    state.cursor = begun.cursor;
+    state.pages = begun.pages;
+    state.sent = begun.sent;
     begun.refusal
 }
 

@@ -10,4 +10,5 @@ pub mod Lies
 pub mod WordLaws
 pub mod Laid
 pub mod Begun
+pub mod StartLaws
 pub mod Stepping

@@ -12,6 +12,7 @@ use Rattle.sender.specs.declared.Cursor.{Cursor}
 use Rattle.sender.specs.declared.PageTable.{PageTable}
 use Rattle.sender.specs.declared.Sender.{Sender}
 use Rattle.sender.specs.declared.Started.{Started}
+use Rattle.sender.specs.declared.Opening.{Opening}
 use Rattle.sender.specs.Step.{stateFrom}
 
 -- the message codewords of a sending, one from each group
@@ -38,9 +39,13 @@ pagesFrom xs =
       frames = padded 48 (framesOf xs);
     }
 
--- before the first of the 18 words of the preamble
+-- before the first of n words of a preamble
+abbrev pub cursorAt : ℕ → Cursor
+cursorAt n = record { slot = 0; page = 0; word = 0; preamble = n; synced = 0; running = 0; message = 0 }
+
+-- before the first step
 abbrev pub atFirst : Cursor
-atFirst = record { slot = 0; page = 0; word = 0; preamble = 18; synced = 0; running = 0; message = 0 }
+atFirst = cursorAt 18
 
 -- the state before the first step: no page is sent
 abbrev pub begun : PageTable → List ℕ → Sender
@@ -50,14 +55,13 @@ begun p words = stateFrom p (replicate 48 0) atFirst words
 unfoldable pub startOf : List Sending → Sender
 startOf xs = begun (pagesFrom xs) (padded 4032 (wordsOf xs))
 
+-- a table of no pages
+abbrev pub noPages : PageTable
+noPages = record { count = 0; addresses = replicate 48 0; starts = replicate 48 0; lengths = replicate 48 0; frames = replicate 48 0 }
+
 -- the state that a refused job gives: all zeros, from which each step answers done
 unfoldable pub noState : Sender
-noState =
-    stateFrom
-    (record { count = 0; addresses = replicate 48 0; starts = replicate 48 0; lengths = replicate 48 0; frames = replicate 48 0 })
-    (replicate 48 0)
-    (record { slot = 0; page = 0; word = 0; preamble = 0; synced = 0; running = 0; message = 0 })
-    (replicate 4032 0)
+noState = stateFrom noPages (replicate 48 0) (cursorAt 0) (replicate 4032 0)
 
 -- the state by a job's answer
 abbrev pub stateBy : JobAnswer → List Sending → Sender
@@ -67,3 +71,12 @@ stateBy (job-answer.Refused why place) xs = noState
 -- what starting a job answers: numbers 1 to 9 as reading the job gives them, and the state
 unfoldable pub startedOf : List ℕ → Started
 startedOf s = record { answer = jobOf s; state = stateBy (jobOf s) (sendingsOf s) }
+
+-- the same without the message words
+abbrev pub openingOf : Started → Opening
+openingOf s = record { answer = s .answer; cursor = s .state .cursor; pages = s .state .pages; sent = s .state .sent }
+
+-- the message words that the caller keeps, by a job's answer: the job's own, or the old ones
+abbrev pub wordsBy : JobAnswer → List ℕ → List ℕ → List ℕ
+wordsBy (job-answer.Accepted n) new old = new
+wordsBy (job-answer.Refused why place) new old = old

@@ -15,7 +15,7 @@ ghost use Rattle.placement.specs.Placement.{mayStart};
 ghost use Rattle.transmission.specs.Sending.{sendingsOf};
 ghost use Rattle.sender.specs.Step.{isSet, flagOf, pageWrong, declined, inSlot, syncDue, finished, stepOf};
 ghost use Rattle.sender.specs.Plan.{tableOf, said, unmarked, PlanOk};
-ghost use Rattle.sender.specs.Start.{wordsOf, pagesFrom, begun, startOf, noState, startedOf};
+ghost use Rattle.sender.specs.Start.{wordsOf, pagesFrom, cursorAt, noPages, openingOf, wordsBy, startedOf};
 use codeword::Codeword;
 use job::JobAnswer;
 use text::Coding;
@@ -78,6 +78,14 @@ pub enum Answer {
 pub struct Started {
     pub answer: JobAnswer,
     pub state: Sender,
+}
+
+// A job's answer, and the state that it gives, without the message words.
+pub struct Opening {
+    pub answer: JobAnswer,
+    pub cursor: Cursor,
+    pub pages: PageTable,
+    pub sent: [u8; 48],
 }
 
 // A step's answer and the state that it leaves.
@@ -505,61 +513,60 @@ fn lay_out(job: &[u8], read: job::Pages, n: usize, words: &mut [u32]) -> PageTab
     }
 }
 
-// The state before the first step.
-fn begin(pages: PageTable, words: [u32; 4032]) -> Sender
-    ensures { λ r. ⌜ r ≡ begun pages words ⌝ }
+// A table of no pages.
+fn no_pages() -> PageTable
+    ensures { λ r. ⌜ r ≡ noPages ⌝ }
 {
-    let cursor = Cursor {
-        slot: 0,
-        page: 0,
-        word: 0,
-        preamble: 18,
-        synced: 0,
-        running: 0,
-        message: 0,
-    };
-    let unsent = [0u8; 48];
-    Sender {
-        cursor: cursor,
-        pages: pages,
-        sent: unsent,
-        words: words,
+    PageTable {
+        count: 0,
+        addresses: [0u32; 48],
+        starts: [0u16; 48],
+        lengths: [0u16; 48],
+        frames: [0u8; 48],
     }
 }
 
-// The state that an accepted job's n pages give.
-fn state_of(job: &[u8], read: job::Pages, n: usize) -> Sender
-    requires { ⌜ (read ≡ readingOf (now job)) × (jobOf (now job) ≡ JobAnswer.Accepted n) ⌝ }
-    ensures { λ r. ⌜ r ≡ startOf (sendingsOf (now (job .entry))) ⌝ }
+// The cursor before the first of so many words of a preamble.
+fn cursor_at(preamble: u8) -> Cursor
+    ensures { λ r. ⌜ r ≡ cursorAt preamble ⌝ }
 {
-    let mut words = [0u32; 4032];
-    let pages = lay_out(job, read, n, &mut words);
-    begin(pages, words)
+    Cursor {
+        slot: 0,
+        page: 0,
+        word: 0,
+        preamble: preamble,
+        synced: 0,
+        running: 0,
+        message: 0,
+    }
 }
 
-// The state that a refused job gives.
-fn no_state() -> Sender
-    ensures { λ r. ⌜ r ≡ noState ⌝ }
+// The answer to a job, and the state from which the steps give its words: the message words where the caller keeps them, and the
+// rest returned. A refused job leaves the message words as they were.
+pub fn start_with(job: &[u8], words: &mut [u32; 4032]) -> Opening
+    ensures { λ r. ⌜ r ≡ openingOf (startedOf (now (job .entry))) ⌝ }
+    ensures { λ r. ⌜ now (words .exit) ≡ wordsBy (jobOf (now (job .entry))) (startedOf (now (job .entry)) .state .words) (now (words .entry)) ⌝ }
 {
-    Sender {
-        cursor: Cursor {
-            slot: 0,
-            page: 0,
-            word: 0,
-            preamble: 0,
-            synced: 0,
-            running: 0,
-            message: 0,
+    let read = job::read_job(job);
+    let answer = read.answer;
+    let unsent = [0u8; 48];
+    match answer {
+        JobAnswer::Accepted(n) => {
+            *words = [0u32; 4032];
+            let pages = lay_out(job, read, n, words);
+            Opening {
+                answer: answer,
+                cursor: cursor_at(18),
+                pages: pages,
+                sent: unsent,
+            }
+        }
+        JobAnswer::Refused { why: _, place: _ } => Opening {
+            answer: answer,
+            cursor: cursor_at(0),
+            pages: no_pages(),
+            sent: unsent,
         },
-        pages: PageTable {
-            count: 0,
-            addresses: [0u32; 48],
-            starts: [0u16; 48],
-            lengths: [0u16; 48],
-            frames: [0u8; 48],
-        },
-        sent: [0u8; 48],
-        words: [0u32; 4032],
     }
 }
 
@@ -567,16 +574,19 @@ fn no_state() -> Sender
 pub fn start(job: &[u8]) -> Started
     ensures { λ r. ⌜ r ≡ startedOf (now (job .entry)) ⌝ }
 {
-    let read = job::read_job(job);
-    let answer = read.answer;
-    match answer {
-        JobAnswer::Accepted(n) => Started {
-            answer: answer,
-            state: state_of(job, read, n),
-        },
-        JobAnswer::Refused { why: _, place: _ } => Started {
-            answer: answer,
-            state: no_state(),
+    let mut words = [0u32; 4032];
+    let opening = start_with(job, &mut words);
+    let cursor = opening.cursor;
+    let pages = opening.pages;
+    let sent = opening.sent;
+    let answer = opening.answer;
+    Started {
+        answer: answer,
+        state: Sender {
+            cursor: cursor,
+            pages: pages,
+            sent: sent,
+            words: words,
         },
     }
 }
