@@ -468,11 +468,12 @@ fn write_message(coding: Coding, text: &[u8], n: u16, out: &mut [u32])
     requires { ⌜ n ≤ length (now out) ⌝ }
     ensures { λ r. ⌜ now (out .exit) ≡ over (now (out .entry)) (tab (λ g. codeword (messageBits (groupOf coding (bytesOf (now (text .entry))) g))) n) ⌝ }
 {
-    let mut g: u16 = 0;
-    while g < n {
-        let i = g as usize;
-        out[i] = Codeword::message(text::group(coding, text, g)).word();
-        g += 1;
+    let count = n as usize;
+    text::write_groups(coding, text, &mut out[..count]);
+    let mut i = 0;
+    while i < count {
+        out[i] = Codeword::message(out[i]).word();
+        i += 1;
     }
 }
 
