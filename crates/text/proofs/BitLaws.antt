@@ -23,7 +23,7 @@ low-bits v (suc n) =
     ap (λ (x : ℕ). v / 2 ^ n % 2 * 2 ^ n + x) (low-bits v n) ∙ sym (ap (λ (m : ℕ). v % 2 ^ m) e ∙ mod-pow-add v 1 n)
 
 -- n bits, and m behind them
-pub low-add : (bit : ℕ → ℕ) (n m : ℕ) → fromLow bit (n + m) ≡ fromLow (λ b. bit (n + b)) m * 2 ^ n + fromLow bit n
+low-add : (bit : ℕ → ℕ) (n m : ℕ) → fromLow bit (n + m) ≡ fromLow (λ b. bit (n + b)) m * 2 ^ n + fromLow bit n
 unfolding fromLow
 low-add bit n zero = let e : n + 0 ≡ n = omega arith in rw e (omega arith)
 low-add bit n (suc m) =
@@ -112,16 +112,3 @@ bits-small bit small at n = omega (arith, bits-back bit at n, low-lt (λ b. bit 
 pub turned-low : (n x : ℕ) → turnedOf n x ≡ fromLow (λ b. x / 2 ^ (n - (b + 1)) % 2) n
 unfolding turnedOf
 turned-low n x = bits-low (λ p. x / 2 ^ p % 2) 0 n 0 ∙ omega (arith, low-same (λ b. x / 2 ^ (0 + (n - (b + 1))) % 2) (λ b. x / 2 ^ (n - (b + 1)) % 2) n (λ b h. let e : 0 + (n - (b + 1)) ≡ n - (b + 1) = omega arith in rw e))
-
--- the loop that turns bits round: its start, one more bit, and its end
-pub turned-start : (n x : ℕ) → turnedOf n x ≡ bitsFrom (λ p. x / 2 ^ p % 2) 0 (n - 0) 0
-unfolding turnedOf
-turned-start n x = let e : n ≡ n - 0 = omega arith in ap (λ (m : ℕ). bitsFrom (λ p. x / 2 ^ p % 2) 0 m 0) e
-
-pub bits-more : (bit : ℕ → ℕ) (j n acc : ℕ) → j < n → bitsFrom bit j (n - j) acc ≡ bitsFrom bit (j + 1) (n - (j + 1)) (acc * 2 + bit j)
-unfolding bitsFrom
-bits-more bit j n acc h = let e : n - j ≡ suc (n - (j + 1)) = omega arith in rw e
-
-pub bits-none : (bit : ℕ → ℕ) (j n acc : ℕ) → n ≤ j → bitsFrom bit j (n - j) acc ≡ acc
-unfolding bitsFrom
-bits-none bit j n acc h = let e : n - j ≡ 0 = omega arith in rw e

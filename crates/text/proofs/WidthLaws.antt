@@ -1,5 +1,5 @@
 -- Bounds on a character's width, and on what is reckoned with it. Assumes nothing.
-use Prim.Native.Nat.{ℕ, _*_, _%_, _≤_, _<_}
+use Prim.Native.Nat.{ℕ, _*_, _≤_, _<_}
 use native.Mathlib.Omega.{arith}
 use Rattle.text.specs.Coding.{widthOf}
 use Rattle.text.specs.declared.Coding.{Coding}
@@ -16,7 +16,3 @@ width-small Alphanumeric = omega arith
 pub width-room : (c : Coding) (n : ℕ) → n < 65536 → n * widthOf c ≤ 458745
 width-room Numeric n h = omega arith
 width-room Alphanumeric n h = omega arith
-
-pub shift-small : (c : Coding) (p : ℕ) → p % widthOf c < 8
-shift-small Numeric p = omega arith
-shift-small Alphanumeric p = omega arith

@@ -1,7 +1,7 @@
 // The characters of a page's text and its 20-bit message groups (document 01, "Texts").
 // A text is handed in as it stands in a job: pairs of upper-case hexadecimal digits.
 ghost use mathlib.Core.Path.{_≡_};
-ghost use Prim.Native.Nat.{_+_, _*_, _%_, _^_, _≤_, _<_};
+ghost use Prim.Native.Nat.{_*_, _%_, _≤_, _<_};
 ghost use lib.ListN.{length, getD};
 ghost use Rattle.base.specs.Hex.{hexOf, digitOf, bytesOf, pairsOf};
 ghost use Rattle.base.specs.Lists.{over, tab};
@@ -126,67 +126,6 @@ fn width(c: Coding) -> usize
         Coding::Numeric => 4,
         Coding::Alphanumeric => 7,
     }
-}
-
-// The character that fills the last group.
-fn fill(c: Coding) -> u8
-    ensures { λ r. ⌜ r ≡ fillOf c ⌝ }
-{
-    match c {
-        Coding::Numeric => b' ',
-        Coding::Alphanumeric => 0,
-    }
-}
-
-// The low n bits of a number, turned round.
-fn turned(number: u64, n: usize) -> u32
-    requires { ⌜ n ≤ 20 ⌝ }
-    ensures { λ r. ⌜ r ≡ turnedOf n number ⌝ }
-{
-    let mut rest = number;
-    let mut bits: u32 = 0;
-    let mut j = 0;
-    while j < n {
-        bits = bits * 2 + (rest % 2) as u32;
-        rest = rest / 2;
-        j += 1;
-    }
-    bits
-}
-
-// A character's bits as a number.
-fn char_value(c: Coding, b: u8) -> u8
-    ensures { λ r. ⌜ r ≡ valueOf c b % 2 ^ widthOf c ⌝ }
-{
-    match c {
-        Coding::Numeric => {
-            let v = numeric_value(b);
-            match v {
-                NumericValue::Value(n) => n % 16,
-                NumericValue::NotNumeric => 0,
-            }
-        }
-        Coding::Alphanumeric => b % 128,
-    }
-}
-
-// The 20 bits of a text's group at index g, the first bit on top. The window has the characters that they touch, the first lowest.
-pub fn group(c: Coding, text: &[u8], g: u16) -> u32
-    ensures { λ r. ⌜ r ≡ groupOf c (bytesOf (now (text .entry))) g ⌝ }
-{
-    let w = width(c);
-    let from = 20 * (g as usize);
-    let offset = from % w;
-    let mut k = from / w;
-    let mut window: u64 = 0;
-    let mut have = 0;
-    while have < offset + 20 {
-        let value = char_value(c, base::pair_byte(text, k, fill(c))) as u64;
-        window += value << have;
-        have += w;
-        k += 1;
-    }
-    turned(window >> offset, 20)
 }
 
 // The value of a hexadecimal digit with its four bits turned round; 0 for any other byte. One arm a digit: a table.

@@ -82,10 +82,12 @@ fn groups(line: &[u8]) {
     let coding = coding_at(line, 9);
     let pairs = &line[11..];
     let n = text::groups(coding, (pairs.len() / 2 % 65536) as u16);
-    let mut g: u16 = 0;
+    let mut first = [0u32; 8];
+    text::write_groups(coding, pairs, &mut first);
+    let mut g = 0;
     while g < 8 {
-        if (g as usize) < n {
-            print_group(text::group(coding, pairs, g));
+        if g < n {
+            print_group(first[g]);
         }
         g += 1;
     }

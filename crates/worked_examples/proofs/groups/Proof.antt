@@ -1,18 +1,14 @@
 -- `worked_examples::groups` is safe and ends. Assumes nothing.
-use mathlib.Core.Path.{_≡_, sym, ap, _∙_}
-use Prim.Native.Nat.{_-_, _+_, _≤_}
-use native.Mathlib.Omega.{arith}
-use lib.ListN.{length, length-set}
-use lib.Seq.{length-take-le}
+use Prim.Native.Nat.{_-_, _≤_}
 use borrow.Author.Needs.{needs}
 use Rattle.worked_examples.proofs.groups.Statement.{statement}
 use Rattle.worked_examples.proofs.groups.Tie as tie
 
 abbrev Inv-loop : tie.InvT-loop
-Inv-loop line coding pairs n g₀ g = g ≤ 8
+Inv-loop line n first g₀ g = g ≤ 8
 
 abbrev μ-loop : tie.MeasureT-loop
-μ-loop line coding pairs n g₀ g = 8 - g
+μ-loop line n first g₀ g = 8 - g
 
 returns : tie.Need-returns Inv-loop μ-loop
 returns c = search needs
@@ -35,14 +31,20 @@ cast-groups c = search needs
 groups-requires : tie.Need-groups-requires Inv-loop μ-loop
 groups-requires c κs = search needs
 
+slice-aggregate-write-groups : tie.Need-slice-aggregate-write-groups Inv-loop μ-loop
+slice-aggregate-write-groups c = search needs
+
+write-groups-requires : tie.Need-write-groups-requires Inv-loop μ-loop
+write-groups-requires c κs = search needs
+
 loop-holds : tie.Need-loop-holds Inv-loop μ-loop
 loop-holds c = search needs
 
-cast-if2 : tie.Need-cast-if2 Inv-loop μ-loop
-cast-if2 c = search needs
+mul-print-group : tie.Need-mul-print-group Inv-loop μ-loop
+mul-print-group c = search needs
 
-group-requires : tie.Need-group-requires Inv-loop μ-loop
-group-requires c κs = search needs
+array-read-print-group : tie.Need-array-read-print-group Inv-loop μ-loop
+array-read-print-group c = search needs
 
 print-group-requires : tie.Need-print-group-requires Inv-loop μ-loop
 print-group-requires c κs = search needs
@@ -72,9 +74,11 @@ groups-spec =
     part-pairs-end
     cast-groups
     groups-requires
+    slice-aggregate-write-groups
+    write-groups-requires
     loop-holds
-    cast-if2
-    group-requires
+    mul-print-group
+    array-read-print-group
     print-group-requires
     add-g
     loop-less
