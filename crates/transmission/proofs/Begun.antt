@@ -59,7 +59,7 @@ module _ (x : Sending) (s : ℕ) (words : List ℕ) where
   begun-more j e p q = let i : s + 1 + j ≡ s + suc j = omega arith in rw (e, p, q, i, add-one j, begun)
 
 -- a page's sending, where its text's groups are told by index
-pub page-sending : (identity kind : ℕ) (bytes : List ℕ) (n : ℕ) {f : ℕ} {gs : List ℕ} → n ≡ length (sendingFrom identity kind bytes .groups)
+pub packed-sending : (identity kind : ℕ) (bytes : List ℕ) (n : ℕ) {f : ℕ} {gs : List ℕ} → n ≡ length (sendingFrom identity kind bytes .groups)
     → f ≡ functionOf kind → gs ≡ tab (groupOf (codingOf kind) bytes) n → _≡_ {A = Sending} (record { identity = identity; function = f; groups = gs }) (sendingFrom identity kind bytes)
 unfolding groupsIn
-page-sending identity kind bytes n e p q = rw (p, q, e, groups-length (codingOf kind) bytes)
+packed-sending identity kind bytes n e p q = rw (p, q, e, groups-length (codingOf kind) bytes)

@@ -9,7 +9,7 @@ use Rattle.text.specs.Coding.{groupOf}
 use Rattle.text.specs.declared.Coding.{Coding}
 use Rattle.transmission.specs.Sending.{Sending}
 use Rattle.transmission.specs.Writing.{withSending}
-use Rattle.transmission.proofs.Begun.{page-sending}
+use Rattle.transmission.proofs.Begun.{packed-sending}
 use Rattle.transmission.proofs.write_packed.Statement.{statement}
 use Rattle.transmission.proofs.write_packed.Tie as tie
 
@@ -42,7 +42,7 @@ returns c =
     let bytes = bytesOf (a .text .now) in
     done .write-sending .ensures
     ∙ ap (λ (x : Sending). withSending x (a .slot) (a .words .now))
-    (page-sending (a .identity) (a .kind) bytes (length (a .groups .now)) (start .pre .0) (told .function .ensures)
+    (packed-sending (a .identity) (a .kind) bytes (length (a .groups .now)) (start .pre .0) (told .function .ensures)
     (packed .write-groups .ensures ∙ ap (λ (x : Coding). tab (groupOf x bytes) (length (a .groups .now))) (coded .coding .ensures)))
 
 pub write-packed-spec : {M : Type 1} → statement M
