@@ -1,4 +1,5 @@
 pub mod Search
+pub mod Joined
 pub mod Alike
 pub mod EveryStep
 pub mod Ways
@@ -7,6 +8,7 @@ pub mod Held
 pub mod Iterated
 pub mod Elem
 pub mod Lies
+pub mod Lent
 pub mod WordLaws
 pub mod Laid
 pub mod Begun

@@ -1,5 +1,5 @@
 -- The plan of a step: what it does, made without the message words, so that no step reads more of them than one.
-use Prim.Native.Nat.{ℕ, _<_}
+use Prim.Native.Nat.{ℕ, _^_, _<_}
 use mathlib.Core.Path.{_≡_}
 use mathlib.Core.List.{List}
 use lib.ListN.{getD, set}
@@ -13,6 +13,11 @@ use Rattle.sender.specs.declared.Stepped.{Stepped}
 use Rattle.sender.specs.declared.Answer.{Answer}
 use Rattle.sender.specs.declared.Answer.the-variants.{Word, Done, Refused}
 use Rattle.sender.specs.Step.{stateFrom}
+
+-- r is below a power of two exactly when each of f 0, .. , f (n - 1) is, as their bits are when they are joined
+pub record Joined (f : ℕ → ℕ) (n r : ℕ) : Type 0 where
+  pub each-below : (k : ℕ) → r < 2 ^ k → (i : ℕ) → i < n → f i < 2 ^ k
+  pub all-below : (k : ℕ) → ((i : ℕ) → i < n → f i < 2 ^ k) → r < 2 ^ k
 
 -- the table of these pages
 abbrev pub tableOf : ℕ → List ℕ → List ℕ → List ℕ → List ℕ → PageTable

@@ -2,7 +2,7 @@
 ghost use mathlib.Core.Path.{_≡_};
 ghost use mathlib.Core.Bool.{false, _&&_, _||_};
 ghost use mathlib.Core.List.{List};
-ghost use Prim.Native.Nat.{ℕ, _≤_};
+ghost use Prim.Native.Nat.{ℕ, _+_, _≤_};
 ghost use lib.Dec.{eqb, leb, ltb};
 ghost use lib.ListN.{length, getD};
 ghost use Rattle.base.specs.Hex.{bytesOf};
@@ -14,7 +14,7 @@ ghost use Rattle.job.specs.Job.{jobOf, readingOf};
 ghost use Rattle.placement.specs.Placement.{mayStart};
 ghost use Rattle.transmission.specs.Sending.{sendingsOf};
 ghost use Rattle.sender.specs.Step.{isSet, flagOf, pageWrong, declined, inSlot, syncDue, finished, stepOf};
-ghost use Rattle.sender.specs.Plan.{tableOf, said, unmarked, PlanOk};
+ghost use Rattle.sender.specs.Plan.{Joined, tableOf, said, unmarked, PlanOk};
 ghost use Rattle.sender.specs.Start.{wordsOf, pagesFrom, cursorAt, noPages, openingOf, wordsBy, startedOf};
 use codeword::Codeword;
 use job::JobAnswer;
@@ -139,17 +139,44 @@ fn flag(b: bool) -> u8
 
 // ---- number 11
 
-// Whether a page's frame is over 7, or its message words end beyond 4,032.
-fn page_wrong(frame: u8, start: u16, count: u16) -> bool
-    ensures { λ r. ⌜ r ≡ pageWrong frame start count ⌝ }
+// The bits of all frames, joined: over 7 exactly where a frame is.
+fn frames_joined(count: u32, frames: &[u8; 48]) -> u8
+    requires { ⌜ count ≤ 48 ⌝ }
+    ensures { λ r. ⌜ Joined (λ i. getD (now (frames .entry)) i 0) count r ⌝ }
 {
-    if 7 < frame {
-        return true;
+    let n = index(count);
+    let mut joined: u8 = 0;
+    let mut i: usize = 0;
+    while i < n {
+        joined = joined | frames[i];
+        i += 1;
     }
-    4032 < wide16(start) + wide16(count)
+    joined
 }
 
-// Whether one of the pages is wrong.
+// Where message words end, and 63 more: 4,096 or more exactly where they end beyond 4,032.
+fn lifted_end(start: u16, length: u16) -> u32
+    ensures { λ r. ⌜ r ≡ start + length + 63 ⌝ }
+{
+    wide16(start) + wide16(length) + 63
+}
+
+// The bits of all lifted ends, joined: 4,096 or more exactly where one is.
+fn ends_joined<'a>(count: u32, starts: &'a [u16; 48], lengths: &'a [u16; 48]) -> u32
+    requires { ⌜ count ≤ 48 ⌝ }
+    ensures { λ r. ⌜ Joined (λ i. getD (now (starts .entry)) i 0 + getD (now (lengths .entry)) i 0 + 63) count r ⌝ }
+{
+    let n = index(count);
+    let mut joined: u32 = 0;
+    let mut i: usize = 0;
+    while i < n {
+        joined = joined | lifted_end(starts[i], lengths[i]);
+        i += 1;
+    }
+    joined
+}
+
+// Whether a page's frame is over 7, or its message words end beyond 4,032. All pages are looked at, several at a time.
 fn pages_wrong<'a>(
     count: u32,
     starts: &'a [u16; 48],
@@ -159,15 +186,12 @@ fn pages_wrong<'a>(
     requires { ⌜ count ≤ 48 ⌝ }
     ensures { λ r. ⌜ r ≡ ltb (least (λ i. pageWrong (getD (now (frames .entry)) i 0) (getD (now (starts .entry)) i 0) (getD (now (lengths .entry)) i 0)) count) count ⌝ }
 {
-    let n = index(count);
-    let mut i: usize = 0;
-    while i < n {
-        if page_wrong(frames[i], starts[i], lengths[i]) {
-            return true;
-        }
-        i += 1;
+    let frame = frames_joined(count, frames);
+    let end = ends_joined(count, starts, lengths);
+    if 7 < frame {
+        return true;
     }
-    false
+    4095 < end
 }
 
 // Whether the running page is not counted, or does not have the running word.
@@ -351,7 +375,7 @@ fn is_finished(count: u32, sent: &[u8; 48], c: Cursor) -> bool
 }
 
 // The plan of a step, for every state: number 11, a word of the preamble, and then before a batch the end or sync, and its slots.
-fn plan_of<'a>(
+fn plan_step<'a>(
     count: u32,
     addresses: &'a [u32; 48],
     starts: &'a [u16; 48],
@@ -380,21 +404,6 @@ fn plan_of<'a>(
     keep(Output::Fixed(Codeword::SYNC.word()), 0, sent, n)
 }
 
-// The plan of a step of a table and flags that were copied out.
-fn plan_step(p: PageTable, sent: [u8; 48], c: Cursor) -> Plan
-    ensures { λ r. ⌜ PlanOk stepOf p sent c r ⌝ }
-{
-    plan_of(
-        p.count,
-        &p.addresses,
-        &p.starts,
-        &p.lengths,
-        &p.frames,
-        &sent,
-        c,
-    )
-}
-
 // The answer, from the plan and the message word that it names.
 fn answer_with(output: Output, w: u32) -> Answer
     ensures { λ r. ⌜ r ≡ said output w ⌝ }
@@ -416,7 +425,15 @@ pub fn step_value(s: Sender) -> Stepped
     let p = s.pages;
     let sent = s.sent;
     let c = s.cursor;
-    let n = plan_step(p, sent, c);
+    let n = plan_step(
+        p.count,
+        &p.addresses,
+        &p.starts,
+        &p.lengths,
+        &p.frames,
+        &sent,
+        c,
+    );
     let at = n.at;
     let page = n.page;
     let w = s.words[at];
@@ -437,10 +454,16 @@ pub fn step_value(s: Sender) -> Stepped
 pub fn step(s: &mut Sender) -> Answer
     ensures { λ r. ⌜ (r ≡ stepOf (now (s .entry)) .answer) × (now (s .exit) ≡ stepOf (now (s .entry)) .state) ⌝ }
 {
-    let p = s.pages;
-    let sent = s.sent;
     let c = s.cursor;
-    let n = plan_step(p, sent, c);
+    let n = plan_step(
+        s.pages.count,
+        &s.pages.addresses,
+        &s.pages.starts,
+        &s.pages.lengths,
+        &s.pages.frames,
+        &s.sent,
+        c,
+    );
     let at = n.at;
     let page = n.page;
     let w = s.words[at];

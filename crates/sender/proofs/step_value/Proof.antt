@@ -20,7 +20,7 @@ answer-with-requires : tie.Need-answer-with-requires
 answer-with-requires c κs = search needs
 
 returns : tie.Need-returns
-returns c = stepped (c .before .before .before .before .before .before .before .args .t1) (c .before .before .before .plan-step .result) (c .answer-with .result) (c .before .before .before .plan-step .ensures) (c .answer-with .ensures)
+returns c = stepped (c .before .before .before .before .before .before .before .before .before .before .before .before .before .args .t1) (c .before .before .before .plan-step .result) (c .answer-with .result) (c .before .before .before .plan-step .ensures) (c .answer-with .ensures)
 
 pub step-value-spec : {M : Type 1} → statement M
 step-value-spec =

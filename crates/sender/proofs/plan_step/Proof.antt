@@ -1,11 +1,11 @@
--- `sender::plan_of` meets its contract. Assumes nothing.
+-- `sender::plan_step` meets its contract. Assumes nothing.
 use mathlib.Core.Path.{refl, sym, _∙_}
 use borrow.Author.Tests.{not-true, not-false}
 use Rattle.sender.specs.Plan.{tableOf}
 use Rattle.sender.proofs.Planned.{sound-count, declined-ok, sound-ok, preamble-ok, batch-ok, slot-ok, done-ok, sync-ok}
 use borrow.Author.Needs.{needs}
-use Rattle.sender.proofs.plan_of.Statement.{statement}
-use Rattle.sender.proofs.plan_of.Tie as tie
+use Rattle.sender.proofs.plan_step.Statement.{statement}
+use Rattle.sender.proofs.plan_step.Tie as tie
 
 is-declined-requires : tie.Need-is-declined-requires
 is-declined-requires c κs = search needs
@@ -80,8 +80,8 @@ returns-5 c =
     let e = sym (c .before .before .before .is-finished .ensures p refl g) ∙ c .before .before .if4 .left in
     sound-ok p (a .sent .now) (a .c) g (batch-ok p (a .sent .now) (a .c) (c .before .before .before .before .before .before .if2 .left) (sync-ok p (a .sent .now) (a .c) d e (c .before .word .ensures) (c .keep4 .ensures)))
 
-pub plan-of-spec : {M : Type 1} → statement M
-plan-of-spec =
+pub plan-step-spec : {M : Type 1} → statement M
+plan-step-spec =
     tie.close
     (tie.spec
     is-declined-requires
