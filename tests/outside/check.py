@@ -49,6 +49,7 @@ import re
 import shutil
 import subprocess
 import sys
+import tempfile
 
 DECODER = "multimon-ng"
 SAMPLES = 22050
@@ -137,7 +138,10 @@ def sound(words, rate):
 def hear(words, rate):
     """The pages that multimon-ng prints, in its order; a line of another form is kept as it is."""
     command = [DECODER, "-q", "-c", "-a", "POCSAG%d" % rate, "-p", "-b", "0", "-t", "raw", "-"]
-    done = subprocess.run(command, input=sound(words, rate), stdout=subprocess.PIPE, stderr=subprocess.PIPE)
+    with tempfile.TemporaryFile() as samples:  # a file, since what it hears of a pipe depends on how the reads fall
+        samples.write(sound(words, rate))
+        samples.seek(0)
+        done = subprocess.run(command, stdin=samples, stdout=subprocess.PIPE, stderr=subprocess.PIPE)
     if done.returncode != 0:
         raise Difference("%s ended with %d: %r" % (DECODER, done.returncode, done.stderr[:200]))
     heard = []
