@@ -68,7 +68,7 @@ module _ (s : List ℕ) where
     room-enough : 5118 ≤ words → 48 ≤ slots → numberOf (reportOf s words slots) ≡ 0
     room-enough h l =
         let a = accepted-sendings s n ok in
-        let limit = sendings-limits a .listed in
+        let limit = sendings-limits a .most in
         let most = a .most in
         rw (
           ← report-accepted s words slots ok,

@@ -212,5 +212,8 @@ module _ (s : List ℕ) (n : ℕ) (ok : jobOf s ≡ Accepted n) where
           in-time = in-time;
           as-placed = as-placed;
           in-words = in-words;
+          paused = λ i j li lj mi mj e.
+              placed .paused i j (in-pages li) (in-pages lj) (omega (arith, word-count i li)) (omega (arith, word-count j lj))
+              (omega (arith, slot-at i li, slot-at j lj, word-count i li));
           steps = λ k. job-stepping s n ok .words-then-done k ∙ ap (λ (x : List ℕ). take k (map Word x ++ replicate k Done)) (sym words-front);
         }

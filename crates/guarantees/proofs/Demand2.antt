@@ -107,7 +107,7 @@ module _ (s : List ℕ) (n : ℕ) (ok : jobOf s ≡ Accepted n) where
     words-given : (room : ℕ) → readWords (drop 18 words) room ≡ given s n room
     words-given room =
         words-heard (drop 18 words) (batches (placementOf (sendingsOf s))) room (transported .whole) (transported .synced)
-        (batches-least allowed) (sendings-limits allowed .listed)
+        (batches-least allowed) (sendings-limits allowed .most)
         ∙ batches-given room
 
     of-batches : OfBatches words (batches (placementOf (sendingsOf s)))
@@ -115,7 +115,7 @@ module _ (s : List ℕ) (n : ℕ) (ok : jobOf s ≡ Accepted n) where
         record {
           size = rec .whole ∙ transmission-length (codewordsOf (sendingsOf s)) (placementOf (sendingsOf s));
           some = batches-least allowed;
-          few = sendings-limits allowed .listed;
+          few = sendings-limits allowed .most;
           small = λ k. ⊎-elim (λ h. rw (List·getD-eq-default words 0 {n = k} h) (omega arith)) (λ h. rec .fits k h) (le-or-lt (length words) k);
         }
 

@@ -84,9 +84,9 @@ pub record InTime (s : List ℕ) (n b : ℕ) (t : List ℕ) : Type 0 where
   -- for every k from 1 to n exactly one page goes out k-th
   pub some : (k : ℕ) → 1 ≤ k → k ≤ n → (i : ℕ) × (i < n) × GoesOut t n k i
   pub one : (k i j : ℕ) → i < n → j < n → GoesOut t n k i → GoesOut t n k j → i ≡ j
-  -- its slot is at most 15 k - 1 and the message codewords of the pages before it
+  -- its slot is at most 16 k - 2 and the message codewords of the pages before it
   pub in-time : (k i : ℕ) → i < n → GoesOut t n k i → slot t i ≤ latest k (earlier t n (count s) i)
-  -- the batches are at most the sixteenth part of 15 n and all message codewords, rounded down, and one more
+  -- the batches are at most the sixteenth part of 16 n and all message codewords less one, rounded down, and one more
   pub few : b ≤ slotBound (placementOf (sendingsOf s)) / 16 + 1
   -- the bound's pages and message codewords are those of the job
   pub pages : placementOf (sendingsOf s) .pages ≡ n
@@ -121,11 +121,14 @@ pub record InWords (s : List ℕ) (n b m : ℕ) (w t : List ℕ) : Type 0 where
   -- sync stands in the words once for each reported batch
   pub syncs : sum (λ k. cond (eqb (getD w k 0) code.sync) 1 0) m ≡ b
 
--- all of that, and any number k of steps answers these very words, the first k of them, with nothing but done behind the last
+-- all of that; the pause after a message (R-3); and any number k of steps answers these very words, the first k of them, with nothing
+-- but done behind the last
 pub record Carried (s : List ℕ) (n b m : ℕ) (w t : List ℕ) : Type 0 where
   pub in-time : InTime s n b t
   pub as-placed : AsPlaced s n b m w t
   pub in-words : InWords s n b m w t
+  -- a page with a message doesn't start in the slot directly behind another page's message
+  pub paused : (i j : ℕ) → i < n → j < n → 0 < count s i → 0 < count s j → slot t j ≡ slot t i + count s i + 1 → ⊥
   pub steps : (k : ℕ) → answers k (startedOf s .state) ≡ take k (map Word (take m w) ++ replicate k Done)
 
 -- ---- demand 3 of a job, whatever its bytes are

@@ -56,7 +56,7 @@ module _ (s : List ℕ) where
   enough : (n : ℕ) → jobOf s ≡ Accepted n → (ltb 5118 (wordCount (placementOf (sendingsOf s))) ≡ false) × (ltb 48 (length (sendingsOf s)) ≡ false)
   enough n e =
       let a = accepted-sendings s n e in
-      let few = sendings-limits a .listed in
+      let few = sendings-limits a .most in
       (le-ltb 5118 (wordCount (placementOf (sendingsOf s))) (omega arith), le-ltb 48 (length (sendingsOf s)) (a .most))
 
   sent-by : (a : JobAnswer) → jobOf s ≡ a → (b m : ℕ) → answered a (sendingsOf s) 5118 48 ≡ report.Sent b m → Sends s m
@@ -65,7 +65,7 @@ module _ (s : List ℕ) where
       let h = enough n e in
       let r : report.Sent (batches (placementOf (sendingsOf s))) (wordCount (placementOf (sendingsOf s))) ≡ report.Sent b m = rw (h .0, h .1) at q in
       let m-is : wordCount (placementOf (sendingsOf s)) ≡ m = cc in
-      record { answer = λ room. rw e; size = sym m-is ∙ sym (transmission-length _ _); fits = omega (arith, sendings-limits (accepted-sendings s n e) .listed) }
+      record { answer = λ room. rw e; size = sym m-is ∙ sym (transmission-length _ _); fits = omega (arith, sendings-limits (accepted-sendings s n e) .most) }
   sent-by (Refused why place) e b m q = let z : _≡_ {A = ℕ} 0 1 = cc in absurd (omega arith)
 
   declined-by : (a : JobAnswer) → jobOf s ≡ a → (why : Refusal) (place : ℕ) → answered a (sendingsOf s) 5118 48 ≡ report.Declined why place

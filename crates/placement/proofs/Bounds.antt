@@ -1,12 +1,14 @@
 -- The two bounds of demand 3, by one invariant of the state (`Good`). Assumes nothing.
 use mathlib.Core.Path.{_≡_, refl, sym, ap, _∙_}
 use mathlib.Core.Logic.{⊎-elim}
+use mathlib.Core.Bool.{Bool, true, false}
 use mathlib.Core.List.{List}
 use Prim.Native.Nat.{ℕ, zero, suc, _+_, _*_, _-_, _%_, _≤_, _<_, zero-le}
 use native.Mathlib.Omega.{arith}
 use lib.ListN.{length, getD, set, replicate, length-set, length-replicate, getD-replicate}
 use lib.Seq.{getD-set-same, getD-set-other}
 use Rattle.base.specs.Search.{sum}
+use Rattle.base.proofs.Bools.{true-false}
 use Rattle.base.proofs.SearchLaws.{le-or-lt, sum-at, sum-le, sum-cong, sum-ones, sum-zeros}
 use Rattle.placement.specs.Placement.{fresh, Job, Framed, messages, latest, slotBound, State, Content, frameOf, stateAt}
 use Rattle.placement.proofs.Turn.{Turn, runs, starts, rests, turn, ready-true, ready-false}
@@ -85,12 +87,42 @@ all-sent job st h = sum-cong _ _ (job .pages) (λ k l. go (getD (st .sent) k 0) 
 abbrev pub nextBy : Job → State → ℕ
 nextBy job st = latest (count job st + 1) (carried job st)
 
--- Before slot s: no unsent page has to wait for a slot of its frame beyond the bound, and a running message ends within it.
+-- how many slots a page with w message codewords is held back behind a message of which l codewords are left: one, the pause, unless
+-- the page is a tone
+abbrev hold : ℕ → ℕ → Bool → ℕ
+hold zero l pause = 0
+hold (suc w) (suc l) pause = 1
+hold (suc w) zero true = 1
+hold (suc w) zero false = 0
+
+hold-le : (w l : ℕ) (pause : Bool) → hold w l pause ≤ 1
+hold-le zero l pause = zero-le
+hold-le (suc w) (suc l) pause = omega arith
+hold-le (suc w) zero true = omega arith
+hold-le (suc w) zero false = zero-le
+
+-- a codeword of the running message brings no more of it
+hold-ran : (w l left : ℕ) (pause : Bool) → hold w left true ≤ hold w (suc l) pause
+hold-ran zero l left pause = zero-le
+hold-ran (suc w) l zero pause = omega arith
+hold-ran (suc w) l (suc left) pause = omega arith
+
+-- with no message before it a page is not held back; and one that is not held back in a pause is a tone
+hold-none : (w : ℕ) → hold w 0 false ≡ 0
+hold-none zero = refl
+hold-none (suc w) = refl
+
+hold-free : (w : ℕ) (pause : Bool) → hold w 0 pause ≡ 0 → pause ≡ true → w ≡ 0
+hold-free zero pause h q = refl
+hold-free (suc w) true h q = absurd (omega arith)
+hold-free (suc w) false h q = absurd (true-false q refl)
+
+-- Before slot s: no unsent page has to wait for a slot of its frame beyond the bound, and a running message ends before it.
 pub record Good (job : Job) (s : ℕ) (st : State) : Type 0 where
   pub marks : length (st .sent) ≡ job .pages
   pub waits : (i : ℕ) → i < job .pages → getD (st .sent) i 0 ≡ 0
-      → (t : ℕ) × (s + st .left ≤ t) × (t ≤ nextBy job st) × (frameOf t ≡ job .frame i)
-  pub ends : 0 < st .left → s + st .left ≤ 15 * count job st + carried job st
+      → (t : ℕ) × (s + st .left + hold (job .words i) (st .left) (st .pause) ≤ t) × (t ≤ nextBy job st) × (frameOf t ≡ job .frame i)
+  pub ends : 0 < st .left → s + st .left < 16 * count job st + carried job st
 
 module _ (job : Job) (framed : Framed job) where
   good-start : Good job 0 (stateAt job 0)
@@ -98,7 +130,7 @@ module _ (job : Job) (framed : Framed job) where
   good-start =
       record {
         marks = length-replicate (job .pages) 0;
-        waits = λ i l u. let n = near 0 (job .frame i) (framed i l) in (n .0, n .1, omega arith, n .3);
+        waits = λ i l u. let n = near 0 (job .frame i) (framed i l) in (n .0, omega (arith, hold-none (job .words i)), omega arith, n .3);
         ends = λ h. omega arith;
       }
 
@@ -106,7 +138,10 @@ module _ (job : Job) (framed : Framed job) where
   good-next s st st′ c (runs l e) g =
       record {
         marks = g .marks;
-        waits = λ i h u. let n = g .waits i h u in (n .0, omega arith, n .2, n .3);
+        waits = λ i h u.
+            let n = g .waits i h u in
+            let less : hold (job .words i) (st .left - 1) true ≤ hold (job .words i) (st .left) (st .pause) = rw e (hold-ran (job .words i) l _ (st .pause)) in
+            (n .0, omega arith, n .2, n .3);
         ends = λ h. let b = g .ends (omega arith) in omega arith;
       }
   good-next s st st′ c (starts i z l r _) g =
@@ -117,7 +152,9 @@ module _ (job : Job) (framed : Framed job) where
       let c2 = total-start job (job .words) (st .sent) i l (ri .0) s (g .marks) in
       record {
         marks = length-set (st .sent) i (suc s) ∙ g .marks;
-        waits = λ k h u. let n = near (suc s + job .words i) (job .frame k) (framed k h) in (n .0, n .1, omega arith, n .3);
+        waits = λ k h u.
+            let n = near (suc s + job .words i + 1) (job .frame k) (framed k h) in
+            (n .0, omega (arith, hold-le (job .words k) (job .words i) false), omega arith, n .3);
         ends = λ h. omega arith;
       }
   good-next s st st′ c (rests z none) g =
@@ -125,7 +162,10 @@ module _ (job : Job) (framed : Framed job) where
         marks = g .marks;
         waits = λ i h u.
             let n = g .waits i h u in
-            let off : s ≡ n .0 → ⊥ = λ e. ready-false job s st i (none i h) (u, sym (n .3) ∙ ap frameOf (sym e)) in
+            let now : hold (job .words i) (st .left) false ≡ 0 = rw z (hold-none (job .words i)) in
+            let free : s ≡ n .0 → hold (job .words i) (st .left) (st .pause) ≡ 0 = λ e. omega arith in
+            let off : s ≡ n .0 → ⊥ = λ e. ready-false job s st i (none i h)
+            (u, sym (n .3) ∙ ap frameOf (sym e), hold-free (job .words i) (st .pause) (rw z at (free e))) in
             (n .0, omega arith, n .2, n .3);
         ends = λ h. omega arith;
       }

@@ -1,12 +1,13 @@
 -- What the slots hold: an address marks its page for good, a mark comes from an address, and a message follows its address. Assumes nothing.
 use mathlib.Core.Path.{_≡_, refl, sym, ap, _∙_}
+use mathlib.Core.Bool.{true}
 use Prim.Native.Nat.{ℕ, zero, suc, _+_, _-_, _≤_, _<_}
 use native.Mathlib.Nat.{add-zero, add-suc}
 use native.Mathlib.Omega.{arith}
 use native.Mathlib.Decide.{ℕ-discrete, le-ind}
 use lib.ListN.{length, getD, getD-replicate}
 use lib.Seq.{getD-set-same, getD-set-other}
-use Rattle.placement.specs.Placement.{started, Job, Framed, State, Content, address, message, frameOf, stateAt, contentAt}
+use Rattle.placement.specs.Placement.{started, Job, Framed, State, Content, address, message, isMessage, frameOf, stateAt, contentAt}
 use Rattle.placement.proofs.Turn.{Turn, runs, starts, rests, turn, ready-true}
 use Rattle.placement.proofs.Bounds.{good}
 
@@ -15,11 +16,21 @@ pub slot : (job : Job) (s : ℕ) → Turn job s (stateAt job s) (contentAt job s
 unfolding stateAt contentAt
 slot job s = turn job s (stateAt job s)
 
+-- the slot after a message codeword is a pause, and no other is, while no message runs
+pub pause-is : (job : Job) (s : ℕ) → stateAt job (suc s) .pause ≡ isMessage (contentAt job s)
+pause-is job s = go _ _ (slot job s)
+  where
+    go : (c : Content) (st′ : State) → Turn job s (stateAt job s) c st′ → st′ .pause ≡ isMessage c
+    go c st′ (runs l z) = refl
+    go c st′ (starts k z l r _) = refl
+    go c st′ (rests z none) = refl
+
 -- page i started in slot s
 pub record Began (job : Job) (s i : ℕ) : Type 0 where
   pub page : i < job .pages
   pub fresh : getD (stateAt job s .sent) i 0 ≡ 0
   pub inFrame : frameOf s ≡ job .frame i
+  pub inPause : stateAt job s .pause ≡ true → job .words i ≡ 0
   pub next : stateAt job (suc s) ≡ started job s (stateAt job s) i
 
 pub began : (job : Job) (s i : ℕ) → contentAt job s ≡ address i → Began job s i
@@ -30,7 +41,7 @@ began job s i e = go _ _ (slot job s) e refl
     go c st′ (starts k z l r _) q n =
         let same : k ≡ i = cc in
         let rk = ready-true job s (stateAt job s) k r in
-        let b : Began job s k = record { page = l; fresh = rk .0; inFrame = sym (rk .1); next = n } in
+        let b : Began job s k = record { page = l; fresh = rk .0; inFrame = sym (rk .1); inPause = rk .2; next = n } in
         rw same at b
     go c st′ (rests z none) q n = absurd (let x : _≡_ {A = ℕ} 0 1 = cc in omega arith)
 

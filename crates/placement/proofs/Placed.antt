@@ -19,7 +19,7 @@ use Rattle.placement.specs.Placement.{Job, jobOf, Framed, Sendable, slot
 use Rattle.placement.specs.Promise.{before, Holds, nothing, itsAddress, itsMessage, Placed, Limits}
 use Rattle.placement.proofs.Turn.{Turn, runs, starts, rests, ready-true}
 use Rattle.placement.proofs.Bounds.{none-sent, all-sent, total-start, good, gone, total, count, no-message, none-unsent}
-use Rattle.placement.proofs.Contents.{slot, began, marks, keeps-on, comes, running, follows, Runs, runs-at}
+use Rattle.placement.proofs.Contents.{slot, pause-is, began, marks, keeps-on, comes, running, follows, Runs, runs-at}
 
 -- all is out: as a test and as facts
 pub all-out : (job : Job) (st : State) → st .left ≡ 0 → ((i : ℕ) → i < job .pages → getD (st .sent) i 0 ≡ 0 → ⊥) → allOut job st ≡ true
@@ -206,6 +206,14 @@ module _ (job : Job) (framed : Framed job) where
   pub behind : (i j : ℕ) → i < job .pages → j < job .words i → contentAt job (slotOf job i + 1 + j) ≡ message i j
   behind i j l h = rw add-one (follows job (slotOf job i) i (sent i l) j h)
 
+  -- behind its last codeword no other message starts
+  paused : (i j : ℕ) → i < job .pages → j < job .pages → 0 < job .words i → 0 < job .words j → slotOf job j ≡ slotOf job i + job .words i + 1 → ⊥
+  paused i j li lj mi mj e =
+      let t = slotOf job i + 1 + (job .words i - 1) in
+      let here : slotOf job j ≡ suc t = omega arith in
+      let pause : stateAt job (slotOf job j) .pause ≡ true = rw here (pause-is job t ∙ ap isMessage (behind i (job .words i - 1) li (omega arith))) in
+      omega (arith, began job (slotOf job j) j (sent j lj) .inPause pause)
+
   inside : (i : ℕ) → i < job .pages → slotOf job i + job .words i < 16 * batches job
   inside i l =
       let t : slotOf job i < 16 * batches job = comes job framed (16 * batches job) i (slotOf job i) l (marked i l) .0 in
@@ -249,11 +257,12 @@ module _ (job : Job) (framed : Framed job) where
         framed = λ i l. began job (slotOf job i) i (sent i l) .inFrame;
         inside = inside;
         behind = behind;
+        paused = paused;
         only = only;
       }
 
 -- a sendable job's batches and slots
 pub limits : {frames words : List ℕ} → Sendable frames words → Limits frames words
 limits {frames} {words} h =
-    let most : batches (jobOf frames words) ≤ 298 = omega (arith, placed (jobOf frames words) (h .framed) .few, h .few, h .short) in
-    record { most = most; listed = omega arith; below = λ s l. omega arith }
+    let most : batches (jobOf frames words) ≤ 300 = omega (arith, placed (jobOf frames words) (h .framed) .few, h .few, h .short) in
+    record { most = most; below = λ s l. omega arith }

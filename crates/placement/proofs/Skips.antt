@@ -1,7 +1,7 @@
 -- Where the search for a frame's next page starts. The code keeps a page number for each frame, `next`, and every page of the frame
 -- below it is sent: a search from there finds the same page as one from page 0. Assumes nothing.
-use mathlib.Core.Path.{_≡_, refl, _∙_}
-use mathlib.Core.Bool.{Bool, true, false}
+use mathlib.Core.Path.{_≡_, refl, sym, _∙_}
+use mathlib.Core.Bool.{Bool, true, false, cond}
 use mathlib.Core.List.{List}
 use Prim.Native.Nat.{ℕ, zero, suc, _+_, _≤_, _<_}
 use native.Mathlib.Omega.{arith}
@@ -10,6 +10,7 @@ use lib.Seq.{getD-set-same, getD-set-other}
 use lib.Dec.{eqb}
 use borrow.Author.Tests.{eqb-true, eqb-false}
 use Rattle.placement.specs.Placement.{Job, Framed, frameOf, ready, stateAt}
+use Rattle.base.proofs.Bools.{true-false}
 use Rattle.placement.proofs.Turn.{ready-true, ready-false}
 use Rattle.placement.proofs.Steps.{At, Passed}
 
@@ -50,7 +51,7 @@ skips-more job marks next p s h a =
       sent = λ k l. at-set (λ (m : ℕ). m ≡ 0 → ⊥) marks p (s + 1) k h (λ q u. omega arith) (λ q. a .sent k l);
     }
 
-module _ (job : Job) (framed : Framed job) (s : ℕ) (marks : List ℕ) (left sent : ℕ) (a : At job s marks left sent) (next : List ℕ) (from : Skips job marks next) where
+module _ (job : Job) (framed : Framed job) (s : ℕ) (marks : List ℕ) (left sent : ℕ) (pause : Bool) (a : At job s marks left sent pause) (next : List ℕ) (from : Skips job marks next) where
   -- no page that the search in slot s skips may start
   pub skips-passed : Passed job s (stateAt job s) (getD next (frameOf s) 0)
   skips-passed k l = go (ready job s (stateAt job s) k) refl
@@ -61,16 +62,24 @@ module _ (job : Job) (framed : Framed job) (s : ℕ) (marks : List ℕ) (left se
           absurd (from .sent k (rw (m .1) l) (rw (a .marked) (m .0)))
       go false e = e
 
-  -- where it ends, the next search in the same frame may start
-  pub skips-found : (r : ℕ) → r ≤ job .pages → Passed job s (stateAt job s) r → Skips job marks (set next (frameOf s) r)
+  -- Where it ends, the next search in the same frame may start; after a pause, in which it looked for a tone, where it started.
+  pub skips-found : (r : ℕ) → r ≤ job .pages → Passed job s (stateAt job s) r → Skips job marks (set next (frameOf s) (cond pause (getD next (frameOf s) 0) r))
   skips-found r w passed =
       record {
-        whole = length-set next (frameOf s) r ∙ from .whole;
-        within = λ f. at-set (λ (x : ℕ). x ≤ job .pages) next (frameOf s) r f here (λ q. w) (λ q. from .within f);
-        sent = λ k. at-set (λ (x : ℕ). k < x → getD marks k 0 ≡ 0 → ⊥) next (frameOf s) r (job .frame k) here
-            (λ q l u. ready-false job s (stateAt job s) k (passed k l) (rw (a .marked) at u, q))
+        whole = length-set next (frameOf s) _ ∙ from .whole;
+        within = λ f. at-set (λ (x : ℕ). x ≤ job .pages) next (frameOf s) _ f here (λ q. low pause) (λ q. from .within f);
+        sent = λ k. at-set (λ (x : ℕ). k < x → getD marks k 0 ≡ 0 → ⊥) next (frameOf s) _ (job .frame k) here
+            (λ q. gone k q pause (a .pauses))
             (λ q. from .sent k);
       }
     where
       here : frameOf s < length next
       here = omega (arith, from .whole)
+
+      low : (b : Bool) → cond b (getD next (frameOf s) 0) r ≤ job .pages
+      low true = from .within (frameOf s)
+      low false = w
+
+      gone : (k : ℕ) → job .frame k ≡ frameOf s → (b : Bool) → b ≡ stateAt job s .pause → k < cond b (getD next (frameOf s) 0) r → getD marks k 0 ≡ 0 → ⊥
+      gone k q true e l u = from .sent k (rw q l) u
+      gone k q false e l u = ready-false job s (stateAt job s) k (passed k l) (rw (a .marked) at u, q, λ t. absurd (true-false t (sym e)))

@@ -4,7 +4,7 @@ use mathlib.Core.Path.{_≡_, refl, sym, ap, _∙_}
 use mathlib.Core.Bool.{Bool, true, false, not, _&&_}
 use mathlib.Core.Logic.{⊎-elim}
 use mathlib.Core.List.{List}
-use Prim.Native.Nat.{ℕ, _+_, _*_, _-_, _/_, _%_, _≤_, _<_}
+use Prim.Native.Nat.{ℕ, suc, _+_, _*_, _-_, _/_, _%_, _≤_, _<_}
 use native.Mathlib.Nat.{eq-or-lt-of-le}
 use native.Mathlib.Numerals.{add-one}
 use native.Mathlib.Omega.{arith}
@@ -16,6 +16,7 @@ use Rattle.base.proofs.Bools.{true-false, and-true, and-both}
 use Rattle.base.proofs.SearchLaws.{least-only, sum-ones, le-or-lt}
 use Rattle.placement.specs.Placement.{Job, Framed, State, Content, idle, address, message, isMessage, fresh, rested, started, ran, mayStart, ready, out, next, stateAt, contentAt, allOut, endsWith, batches}
 use Rattle.placement.proofs.Turn.{Turn, runs, starts, rests, turn, ready-true}
+use Rattle.placement.proofs.Contents.{pause-is}
 use Rattle.placement.proofs.Bounds.{none-sent, all-sent, good, total-le, total-start, total-without, count}
 use Rattle.placement.proofs.Placed.{all-out, out-all, ended, some-batch, batches-is}
 
@@ -55,22 +56,19 @@ module _ (job : Job) (s : ℕ) (st : State) where
       go c st′ (starts k e b r _) = absurd (true-false r (p k b))
       go c st′ (rests e none) = (refl, refl)
 
--- What the code has before slot s: the placement's marks, its message codewords left, and how many pages are sent.
-pub record At (job : Job) (s : ℕ) (marks : List ℕ) (left sent : ℕ) : Type 0 where
+-- What the code has before slot s: the placement's marks, its message codewords left, whether the slot before held one, and how many
+-- pages are sent.
+pub record At (job : Job) (s : ℕ) (marks : List ℕ) (left sent : ℕ) (pause : Bool) : Type 0 where
   pub marked : marks ≡ stateAt job s .sent
   pub leaves : left ≡ stateAt job s .left
   pub counted : sent ≡ count job (stateAt job s)
+  pub pauses : pause ≡ stateAt job s .pause
 
--- what it has after slot s, with whether the slot held a message codeword
-pub record Next (job : Job) (s : ℕ) (marks : List ℕ) (left sent : ℕ) (said : Bool) : Type 0 where
-  pub at : At job (s + 1) marks left sent
-  pub told : said ≡ isMessage (contentAt job s)
-
-pub at-start : (job : Job) → At job 0 (fresh job .sent) 0 0
+pub at-start : (job : Job) → At job 0 (fresh job .sent) 0 0 false
 unfolding stateAt
-at-start job = record { marked = refl; leaves = refl; counted = sym (none-sent job) }
+at-start job = record { marked = refl; leaves = refl; counted = sym (none-sent job); pauses = refl }
 
-module _ (job : Job) (framed : Framed job) (s : ℕ) (marks : List ℕ) (left sent : ℕ) (a : At job s marks left sent) where
+module _ (job : Job) (framed : Framed job) (s : ℕ) (marks : List ℕ) (left sent : ℕ) (pause : Bool) (a : At job s marks left sent pause) where
   pub marks-length : length marks ≡ job .pages
   marks-length = rw (a .marked) (good job framed s .marks)
 
@@ -78,45 +76,41 @@ module _ (job : Job) (framed : Framed job) (s : ℕ) (marks : List ℕ) (left se
   sent-few = omega (arith, a .counted, total-le job (λ _. 1) (stateAt job s .sent), sum-ones (job .pages))
 
   -- the code's question about page i
-  pub asked : (i : ℕ) → mayStart (getD marks i 0) (job .frame i) s ≡ ready job s (stateAt job s) i
+  pub asked : (i : ℕ) → mayStart (getD marks i 0) (job .frame i) (job .words i) pause s ≡ ready job s (stateAt job s) i
   unfolding ready
-  asked i = rw (a .marked)
+  asked i = rw (a .marked, a .pauses)
 
-  -- the state after slot s, and what the slot held, made into what the code has
-  make : (st : State) (c : Content) (sent′ : ℕ) → (out job s (stateAt job s) ≡ c) × (next job s (stateAt job s) ≡ st) → sent′ ≡ count job st
-      → Next job s (st .sent) (st .left) sent′ (isMessage c)
-  unfolding stateAt contentAt
-  make st c sent′ x g =
+  -- the state after slot s made into what the code has
+  make : (st : State) (sent′ : ℕ) → next job s (stateAt job s) ≡ st → sent′ ≡ count job st → At job (suc s) (st .sent) (st .left) sent′ (st .pause)
+  unfolding stateAt
+  make st sent′ x g =
       record {
-        at = rw add-one
-            (record {
-              marked = ap (λ (q : State). q .sent) (sym (x .1));
-              leaves = ap (λ (q : State). q .left) (sym (x .1));
-              counted = g ∙ ap (count job) (sym (x .1));
-            });
-        told = ap isMessage (sym (x .0));
+        marked = ap (λ (q : State). q .sent) (sym x);
+        leaves = ap (λ (q : State). q .left) (sym x);
+        counted = g ∙ ap (count job) (sym x);
+        pauses = ap (λ (q : State). q .pause) (sym x);
       }
 
-  pub at-runs : 0 < left → Next job s marks (left - 1) sent true
+  pub at-runs : 0 < left → At job (s + 1) marks (left - 1) sent true
   at-runs h =
-      rw (a .marked, a .leaves)
-      (make (ran (stateAt job s)) _ sent (slot-runs job s (stateAt job s) (rw (a .leaves) at h)) (a .counted))
+      rw (a .marked, a .leaves, add-one s)
+      (make (ran (stateAt job s)) sent (slot-runs job s (stateAt job s) (rw (a .leaves) at h) .1) (a .counted))
 
   pub at-starts : (i : ℕ) → left ≡ 0 → i < job .pages → ready job s (stateAt job s) i ≡ true → Passed job s (stateAt job s) i
-      → Next job s (set marks i (s + 1)) (job .words i) (sent + 1) false
+      → At job (s + 1) (set marks i (s + 1)) (job .words i) (sent + 1) false
   at-starts i z l m p =
       rw (a .marked, add-one s)
-      (make (started job s (stateAt job s) i) _ (sent + 1) (slot-starts job s (stateAt job s) i (sym (a .leaves) ∙ z) l m p)
+      (make (started job s (stateAt job s) i) (sent + 1) (slot-starts job s (stateAt job s) i (sym (a .leaves) ∙ z) l m p .1)
       (omega (
         arith,
         a .counted,
         total-start job (λ _. 1) (stateAt job s .sent) i l (ready-true job s (stateAt job s) i m .0) s (good job framed s .marks),
       )))
 
-  pub at-rests : left ≡ 0 → Passed job s (stateAt job s) (job .pages) → Next job s marks left sent false
+  pub at-rests : left ≡ 0 → Passed job s (stateAt job s) (job .pages) → At job (s + 1) marks left sent false
   at-rests z p =
-      rw (a .marked, a .leaves)
-      (make (rested (stateAt job s)) _ sent (slot-rests job s (stateAt job s) (sym (a .leaves) ∙ z) p) (a .counted))
+      rw (a .marked, a .leaves, add-one s)
+      (make (rested (stateAt job s)) sent (slot-rests job s (stateAt job s) (sym (a .leaves) ∙ z) p .1) (a .counted))
 
 -- the code's test after slot s
 abbrev pub Ends : Job → ℕ → ℕ → ℕ → Bool → Bool
@@ -141,7 +135,10 @@ open-slot job framed s o =
     (λ h. h)
     (le-or-lt (16 * batches job) s)
 
-module _ (job : Job) (framed : Framed job) (s : ℕ) (marks : List ℕ) (left sent : ℕ) (said : Bool) (x : Next job s marks left sent said) (o : Open job s) where
+module _ (job : Job) (framed : Framed job) (s : ℕ) (marks : List ℕ) (left sent : ℕ) (said : Bool) (x : At job (s + 1) marks left sent said) (o : Open job s) where
+  told : said ≡ isMessage (contentAt job s)
+  told = x .pauses ∙ rw add-one (pause-is job s)
+
   over : Ends job s left sent said ≡ true → Over job s left sent said
   over e =
       let d = and-true (eqb ((s + 1) % 16) 0 && not said && eqb left 0) (eqb sent (job .pages)) e in
@@ -160,22 +157,22 @@ module _ (job : Job) (framed : Framed job) (s : ℕ) (marks : List ℕ) (left se
         let both = and-true (allOut job (stateAt job (s + 1))) (not (isMessage (contentAt job s))) (sym ends-at ∙ e) in
         let all = out-all job (stateAt job (s + 1)) (both .0) in
         and-both
-        (and-both (and-both (eq-eqb ((s + 1) % 16) 0 (omega arith)) (rw (x .told) (both .1))) (eq-eqb _ _ (x .at .leaves ∙ all .0)))
-        (eq-eqb _ _ (x .at .counted ∙ all-sent job (stateAt job (s + 1)) (all .1)))
+        (and-both (and-both (eq-eqb ((s + 1) % 16) 0 (omega arith)) (rw told (both .1))) (eq-eqb _ _ (x .leaves ∙ all .0)))
+        (eq-eqb _ _ (x .counted ∙ all-sent job (stateAt job (s + 1)) (all .1)))
 
     of-test : Over job s left sent said → endsWith job b ≡ true
     of-test f =
         ends-at
         ∙ and-both
-        (all-out job (stateAt job (s + 1)) (sym (x .at .leaves) ∙ f .none)
+        (all-out job (stateAt job (s + 1)) (sym (x .leaves) ∙ f .none)
         (λ i l u. omega (
           arith,
-          x .at .counted,
+          x .counted,
           f .full,
           sum-ones (job .pages),
           total-without job (λ _. 1) (stateAt job (s + 1) .sent) i l u (good job framed (s + 1) .marks),
         )))
-        (rw (← x .told) (f .silent))
+        (rw (← told) (f .silent))
 
   -- what the code's answer to that test shows
   pub goes-on : {answer : Bool} → answer ≡ Ends job s left sent said → answer ≡ false → Open job (s + 1)

@@ -1,10 +1,10 @@
 -- One slot of the placement as three cases: a message runs, a page starts, or the slot is idle. Every law of the
 -- placement is proved by these cases, so a change of the rule is met in `turn` and in the laws that name a case. Assumes nothing.
 use mathlib.Core.Path.{_≡_, refl}
-use mathlib.Core.Bool.{Bool, true, false, cond}
+use mathlib.Core.Bool.{Bool, true, false, not, cond, _||_}
 use Prim.Native.Nat.{ℕ, zero, suc, _-_, _<_}
 use lib.ListN.{getD}
-use lib.Dec.{ltb}
+use lib.Dec.{eqb, ltb}
 use borrow.Author.Tests.{eqb-true, eq-eqb, ltb-true, ltb-false}
 use native.Mathlib.Omega.{arith}
 use Rattle.base.proofs.Bools.{true-false, and-true, and-both}
@@ -13,17 +13,26 @@ use Rattle.placement.specs.Placement.{Job, State, Content, idle, address
 
 -- page i may start in slot s: `ready` as facts
 abbrev pub May : Job → ℕ → State → ℕ → Type 0
-May job s st i = (getD (st .sent) i 0 ≡ 0) × (job .frame i ≡ frameOf s)
+May job s st i = (getD (st .sent) i 0 ≡ 0) × (job .frame i ≡ frameOf s) × (st .pause ≡ true → job .words i ≡ 0)
 
 pub ready-true : (job : Job) (s : ℕ) (st : State) (i : ℕ) → ready job s st i ≡ true → May job s st i
 unfolding ready mayStart
 ready-true job s st i e =
-    let both = and-true _ _ e in
-    (eqb-true _ _ (both .0), eqb-true _ _ (both .1))
+    let all = and-true _ _ e in
+    let two = and-true _ _ (all .0) in
+    (eqb-true _ _ (two .0), eqb-true _ _ (two .1), tone (st .pause) (all .1))
+  where
+    tone : (b : Bool) → not b || eqb (job .words i) 0 ≡ true → b ≡ true → job .words i ≡ 0
+    tone true t _ = eqb-true _ _ t
+    tone false t q = absurd (true-false q refl)
 
 pub ready-is : (job : Job) (s : ℕ) (st : State) (i : ℕ) → May job s st i → ready job s st i ≡ true
 unfolding ready mayStart
-ready-is job s st i m = and-both (eq-eqb _ _ (m .0)) (eq-eqb _ _ (m .1))
+ready-is job s st i m = and-both (and-both (eq-eqb _ _ (m .0)) (eq-eqb _ _ (m .1))) (tone (st .pause) (m .2))
+  where
+    tone : (b : Bool) → (b ≡ true → job .words i ≡ 0) → not b || eqb (job .words i) 0 ≡ true
+    tone true h = eq-eqb _ _ (h refl)
+    tone false h = refl
 
 pub ready-false : (job : Job) (s : ℕ) (st : State) (i : ℕ) → ready job s st i ≡ false → May job s st i → ⊥
 ready-false job s st i e m = true-false (ready-is job s st i m) e

@@ -1,4 +1,5 @@
--- The worked slots of document 01, "Examples on both sides of a limit", as one table that the definitions compute.
+-- The worked slots of document 01, "Examples on both sides of a limit", as one table that the definitions compute; and a second one for
+-- the pause after a message (R-3).
 use mathlib.Core.Path.{_≡_}
 use mathlib.Core.Bool.{Bool, true, false, cond, _&&_}
 use mathlib.Core.List.{List, [], _∷_, _++_}
@@ -55,6 +56,21 @@ table =
     } ∷
     []
 
--- the table is right: proved by `worked-slots` in proofs/Examples.antt
+-- the pause: another message waits a slot; a tone doesn't, and overtakes a message of its frame; a message whose frame is over with the
+-- pause waits for the next batch; and the pause after a message that ends a batch is the next batch's first slot
+unfoldable pub pauses : List Row
+pauses =
+    record { frames = 0 ∷ 1 ∷ []; words = 1 ∷ 1 ∷ []; slots = 0 ∷ 3 ∷ []; running = 1 ∷ 4 ∷ []; batches = 1 } ∷
+    record { frames = 0 ∷ 1 ∷ []; words = 1 ∷ 0 ∷ []; slots = 0 ∷ 2 ∷ []; running = 1 ∷ []; batches = 1 } ∷
+    record { frames = 0 ∷ 1 ∷ 1 ∷ []; words = 1 ∷ 1 ∷ 0 ∷ []; slots = 0 ∷ 3 ∷ 2 ∷ []; running = 1 ∷ 4 ∷ []; batches = 1 } ∷
+    record { frames = 0 ∷ 1 ∷ []; words = 2 ∷ 1 ∷ []; slots = 0 ∷ 18 ∷ []; running = 1 ∷ 2 ∷ 19 ∷ []; batches = 2 } ∷
+    record { frames = 0 ∷ 7 ∷ 0 ∷ []; words = 1 ∷ 1 ∷ 1 ∷ []; slots = 0 ∷ 14 ∷ 17 ∷ []; running = 1 ∷ 15 ∷ 18 ∷ []; batches = 2 } ∷
+    record { frames = 0 ∷ 7 ∷ 0 ∷ []; words = 1 ∷ 1 ∷ 0 ∷ []; slots = 0 ∷ 14 ∷ 16 ∷ []; running = 1 ∷ 15 ∷ []; batches = 2 } ∷
+    []
+
+-- both tables are right: proved by `worked-slots` and `worked-pauses` in proofs/Examples.antt
 abbrev pub WorkedSlots : Type 0
 WorkedSlots = all table ≡ true
+
+abbrev pub WorkedPauses : Type 0
+WorkedPauses = all pauses ≡ true

@@ -1,8 +1,8 @@
--- Which slot holds what: document 01, "Placement". Slots are numbered from 0 through all batches, without the sync words. Each has a
+-- Which slot holds what: document 01, "Placement", with the pause after a message (R-3). Slots are numbered from 0 through all batches, without the sync words. Each has a
 -- content and a state before it, by recursion on its number. The number of batches is the least with which the transmission can end,
 -- looked for up to demand 3's bound; the theorem `Placed` (specs/Promise.antt) says that one is always found.
 use mathlib.Core.Path.{_≡_}
-use mathlib.Core.Bool.{Bool, true, false, not, cond, _&&_}
+use mathlib.Core.Bool.{Bool, true, false, not, cond, _&&_, _||_}
 use mathlib.Core.List.{List}
 use Prim.Native.Nat.{ℕ, zero, suc, pred, _+_, _-_, _*_, _/_, _%_, _≤_, _<_}
 use lib.ListN.{getD, set, replicate, length}
@@ -41,20 +41,22 @@ pub record Sendable (frames words : List ℕ) : Type 0 where
 
 -- the last slot that the k-th address can have, where m message codewords go out before it
 abbrev pub latest : ℕ → ℕ → ℕ
-latest k m = 15 * k - 1 + m
+latest k m = 16 * k - 2 + m
 
 -- the slot from which on all is out, for n pages and m message codewords: one more than its sixteenth part is the most batches
 abbrev pub slotBound : Job → ℕ
-slotBound job = 15 * job .pages + messages job
+slotBound job = 16 * job .pages + messages job - 1
 
 -- ---- one slot
 
 -- The state before a slot. `sent` marks each page: 0 while it is unsent, and then one more than the slot of its address.
--- `page` is the page that was sent last, and `left` how many of its message codewords are still to go out.
+-- `page` is the page that was sent last, and `left` how many of its message codewords are still to go out. `pause` says that the slot
+-- before held a message codeword: where none is left, this slot is the pause after the message.
 pub record State : Type 0 where
   pub sent : List ℕ
   pub page : ℕ
   pub left : ℕ
+  pub pause : Bool
 
 -- what a slot holds: idle, the address of page i, or message codeword j of page i, counted from 0
 pub data Content : Type 0 where
@@ -66,13 +68,14 @@ pub data Content : Type 0 where
 abbrev pub frameOf : ℕ → ℕ
 frameOf s = s % 16 / 2
 
--- the rule which page may start in slot s, by the page's mark and frame: one that is unsent, in a slot of its own frame
-unfoldable pub mayStart : ℕ → ℕ → ℕ → Bool
-mayStart mark frame s = eqb mark 0 && eqb frame (frameOf s)
+-- the rule which page may start in slot s, by the page's mark, its frame and its number of message codewords, and by whether s is a
+-- pause: one that is unsent, in a slot of its own frame, and in a pause only a tone, which has no message codewords
+unfoldable pub mayStart : ℕ → ℕ → ℕ → Bool → ℕ → Bool
+mayStart mark frame words pause s = eqb mark 0 && eqb frame (frameOf s) && (not pause || eqb words 0)
 
 -- page i of the job may start in slot s
 unfoldable pub ready : Job → ℕ → State → ℕ → Bool
-ready job s st i = mayStart (getD (st .sent) i 0) (job .frame i) s
+ready job s st i = mayStart (getD (st .sent) i 0) (job .frame i) (job .words i) (st .pause) s
 
 -- of the pages that may start, the first in job order; the number of pages where there is none
 unfoldable pub first : Job → ℕ → State → ℕ
@@ -89,19 +92,19 @@ out job s st = outOf job s st (st .left)
 
 -- the state before slot 0: no page is sent
 abbrev pub fresh : Job → State
-fresh job = record { sent = replicate (job .pages) 0; page = 0; left = 0 }
+fresh job = record { sent = replicate (job .pages) 0; page = 0; left = 0; pause = false }
 
 -- the state after an idle slot
 abbrev pub rested : State → State
-rested st = st
+rested st = record { sent = st .sent; page = st .page; left = st .left; pause = false }
 
 -- the state after the address of page i in slot s: the page is sent, and its message, if it has one, runs
 abbrev pub started : Job → ℕ → State → ℕ → State
-started job s st i = record { sent = set (st .sent) i (suc s); page = i; left = job .words i }
+started job s st i = record { sent = set (st .sent) i (suc s); page = i; left = job .words i; pause = false }
 
--- the state after a message codeword: one less is left
+-- the state after a message codeword: one less is left, and what follows the last is a pause
 abbrev pub ran : State → State
-ran st = record { sent = st .sent; page = st .page; left = st .left - 1 }
+ran st = record { sent = st .sent; page = st .page; left = st .left - 1; pause = true }
 
 -- the state after slot s, by what the slot held
 unfoldable pub after : Job → ℕ → State → Content → State

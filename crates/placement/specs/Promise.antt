@@ -24,12 +24,12 @@ pub data Holds (job : Job) (s : ℕ) : Content → Type 0 where
 
 -- demand 3 over the placement
 pub record Placed (job : Job) : Type 0 where
-  -- the k-th address keeps its bound, 15 k - 1 and the message codewords of the pages before it
+  -- the k-th address keeps its bound, 16 k - 2 and the message codewords of the pages before it
   pub kth : (k i : ℕ) → i < job .pages → Kth job k i → slotOf job i ≤ latest k (before job (job .words) i)
   -- for every k from 1 to n there is exactly one page that goes out k-th
   pub some : (k : ℕ) → 0 < k → k ≤ job .pages → (i : ℕ) × (i < job .pages) × Kth job k i
   pub one : (k i j : ℕ) → i < job .pages → j < job .pages → Kth job k i → Kth job k j → i ≡ j
-  -- the batches keep theirs, one more than the sixteenth part of 15 n + m
+  -- the batches keep theirs, one more than the sixteenth part of 16 n + m - 1
   pub few : batches job ≤ slotBound job / 16 + 1
   -- the transmission can end with the last batch, and with no batch before it
   pub ended : endsWith job (batches job - 1) ≡ true
@@ -39,11 +39,12 @@ pub record Placed (job : Job) : Type 0 where
   pub framed : (i : ℕ) → i < job .pages → frameOf (slotOf job i) ≡ job .frame i
   pub inside : (i : ℕ) → i < job .pages → slotOf job i + job .words i < 16 * batches job
   pub behind : (i j : ℕ) → i < job .pages → j < job .words i → contentAt job (slotOf job i + 1 + j) ≡ message i j
+  -- no page with a message starts in the slot directly behind another's
+  pub paused : (i j : ℕ) → i < job .pages → j < job .pages → 0 < job .words i → 0 < job .words j → slotOf job j ≡ slotOf job i + job .words i + 1 → ⊥
   -- and nothing else goes out
   pub only : (s : ℕ) → Holds job s (contentAt job s)
 
--- what a sendable job takes at most: 298 batches, so that they fit a listing's 300 and a sender state's slots up to 4,800
+-- what a sendable job takes at most: 300 batches, as many as a listing has, and so every slot is one of a sender state's, below 4,800
 pub record Limits (frames words : List ℕ) : Type 0 where
-  pub most : batches (jobOf frames words) ≤ 298
-  pub listed : batches (jobOf frames words) ≤ 300
+  pub most : batches (jobOf frames words) ≤ 300
   pub below : (s : ℕ) → s < 16 * batches (jobOf frames words) → s < 4800

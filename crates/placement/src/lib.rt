@@ -1,6 +1,6 @@
-// Placement of a job's pages in frames and batches: document 01, "Placement".
+// Placement of a job's pages in frames and batches: document 01, "Placement", with the pause after a message (R-3).
 ghost use mathlib.Core.Path.{_≡_};
-ghost use mathlib.Core.Bool.{not, _&&_};
+ghost use mathlib.Core.Bool.{not, cond, _&&_};
 ghost use mathlib.Core.List.{map};
 ghost use Prim.Native.Nat.{pred, _*_, _%_, _≤_};
 ghost use lib.Dec.{eqb};
@@ -41,15 +41,32 @@ fn unmark(marks: &mut [u32])
     }
 }
 
-// Whether a page with this mark and this frame may start in this slot.
-fn may_start(mark: u32, frame: u8, slot: u32) -> bool
-    ensures { λ r. ⌜ r ≡ mayStart mark frame slot ⌝ }
+// Whether a page with this mark, frame and number of message codewords may start in this slot: in a pause only a tone may.
+fn may_start(mark: u32, frame: u8, words: u32, pause: bool, slot: u32) -> bool
+    ensures { λ r. ⌜ r ≡ mayStart mark frame words pause slot ⌝ }
 {
     if mark != 0 {
         return false;
     }
     let here = (slot % 16 / 2) as u8;
-    frame == here
+    if frame != here {
+        return false;
+    }
+    if pause {
+        return words == 0;
+    }
+    true
+}
+
+// Where a frame's next search starts: where one ended that started at `from`, or again at `from` after a pause, which passes over pages
+// with a message.
+fn search_from(pause: bool, from: usize, end: usize) -> usize
+    ensures { λ r. ⌜ r ≡ cond pause from end ⌝ }
+{
+    if pause {
+        return from;
+    }
+    end
 }
 
 // Whether a batch ends before this slot, the slot before held no message codeword, none is left, and all n pages are sent.
@@ -81,6 +98,7 @@ fn run(frames: &[u8], words: &[u32], marks: &mut [u32]) -> u32
     let mut slot: u32 = 0;
     let mut left: u32 = 0;
     let mut sent: usize = 0;
+    let mut pause = false;
     loop {
         let message = 0 < left;
         if message {
@@ -92,18 +110,19 @@ fn run(frames: &[u8], words: &[u32], marks: &mut [u32]) -> u32
                 if i == n {
                     break Start::Idle;
                 }
-                if may_start(marks[i], frames[i], slot) {
+                if may_start(marks[i], frames[i], words[i], pause, slot) {
                     break Start::Page(i);
                 }
                 i += 1;
             };
-            next[frame] = i;
+            next[frame] = search_from(pause, next[frame], i);
             if let Start::Page(page) = start {
                 marks[page] = slot + 1;
                 left = words[page];
                 sent += 1;
             }
         }
+        pause = message;
         slot += 1;
         if at_end(slot, message, left, sent, n) {
             break;

@@ -11,10 +11,12 @@ use Rattle.sender.proofs.Search.{least-same}
 abbrev pub Alike : ℕ → List ℕ → List ℕ → Type 0
 Alike n m m′ = (i : ℕ) → i < n → eqb (getD m i 0) 0 ≡ eqb (getD m′ i 0) 0
 
-module _ (job : Job) (st st′ : State) (page : st .page ≡ st′ .page) (left : st .left ≡ st′ .left) (marks : Alike (job .pages) (st .sent) (st′ .sent)) where
+module _ (job : Job) (st st′ : State) (page : st .page ≡ st′ .page) (left : st .left ≡ st′ .left) (pause : st .pause ≡ st′ .pause) (marks : Alike (job .pages) (st .sent) (st′ .sent)) where
   first-alike : (s : ℕ) → first job s st ≡ first job s st′
   unfolding first ready mayStart
-  first-alike s = least-same (ready job s st) (ready job s st′) (job .pages) (λ k l. ap (λ (b : Bool). b && eqb (job .frame k) (frameOf s)) (marks k l))
+  first-alike s =
+      least-same (ready job s st) (ready job s st′) (job .pages)
+      (λ k l. rw (marks k l, pause))
 
   pub out-alike : (s : ℕ) → out job s st ≡ out job s st′
   unfolding out outOf

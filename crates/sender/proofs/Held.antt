@@ -10,7 +10,7 @@ use lib.Seq.{getD-set-same, getD-set-other}
 use lib.Dec.{eqb, ltb, leb}
 use borrow.Author.Tests.{ltb-true, ltb-false, le-ltb, lt-leb, ne-eqb}
 use Rattle.base.proofs.Bools.{true-false}
-use Rattle.placement.specs.Placement.{Job, Framed, messages, State, Content, isMessage, out, allOut, stateAt, contentAt}
+use Rattle.placement.specs.Placement.{Framed, messages, State, Content, out, allOut, stateAt, contentAt}
 use Rattle.placement.proofs.Turn.{Turn, runs, starts, rests}
 use Rattle.placement.proofs.Bounds as bounds
 use Rattle.placement.proofs.Contents.{slot, Runs, runs-at}
@@ -30,28 +30,23 @@ pub record Fit (p : PageTable) : Type 0 where
   pub inside : (i : ℕ) → i < p .count → getD (p .starts) i 0 + getD (p .lengths) i 0 ≤ 4032
   pub short : messages (jobIn p) ≤ 4032
 
--- the slot before slot n held a message codeword
-abbrev pub lastMessage : Job → ℕ → Bool
-lastMessage job zero = false
-lastMessage job (suc n) = isMessage (contentAt job n)
-
--- the sender before slot n, where the placement's state is st, and `last` says whether the slot before held a message codeword
-pub record Held (p : PageTable) (n : ℕ) (st : State) (last : Bool) (sent : List ℕ) (c : Cursor) : Type 0 where
+-- the sender before slot n, where the placement's state is st
+pub record Held (p : PageTable) (n : ℕ) (st : State) (sent : List ℕ) (c : Cursor) : Type 0 where
   pub slot : c .slot ≡ n
   pub page : c .page ≡ st .page
   pub left : leftOf p c ≡ st .left
   pub marks : Alike (p .count) sent (st .sent)
   pub room : length sent ≡ 48
   pub runs : isSet (c .running) ≡ true → c .word < getD (p .lengths) (c .page) 0
-  pub message : isSet (c .message) ≡ last
+  pub message : isSet (c .message) ≡ st .pause
 
 abbrev pub HeldAt : PageTable → ℕ → List ℕ → Cursor → Type 0
-HeldAt p n sent c = Held p n (stateAt (jobIn p) n) (lastMessage (jobIn p) n) sent c
+HeldAt p n sent c = Held p n (stateAt (jobIn p) n) sent c
 
-pub held-preamble : {p : PageTable} {n : ℕ} {st : State} {last : Bool} {sent : List ℕ} {c : Cursor} → Held p n st last sent c → Held p n st last sent (afterPreamble c)
+pub held-preamble : {p : PageTable} {n : ℕ} {st : State} {sent : List ℕ} {c : Cursor} → Held p n st sent c → Held p n st sent (afterPreamble c)
 held-preamble h = record { slot = h .slot; page = h .page; left = h .left; marks = h .marks; room = h .room; runs = h .runs; message = h .message }
 
-pub held-sync : {p : PageTable} {n : ℕ} {st : State} {last : Bool} {sent : List ℕ} {c : Cursor} → Held p n st last sent c → Held p n st last sent (afterSync c)
+pub held-sync : {p : PageTable} {n : ℕ} {st : State} {sent : List ℕ} {c : Cursor} → Held p n st sent c → Held p n st sent (afterSync c)
 held-sync h = record { slot = h .slot; page = h .page; left = h .left; marks = h .marks; room = h .room; runs = h .runs; message = h .message }
 
 running-of : (b : Bool) (x l : ℕ) → cond b x 0 ≡ suc l → b ≡ true
@@ -71,11 +66,11 @@ rest-of a e = go (ltb a e) refl
     go false q = let l : e ≤ a = ltb-false a e q in omega arith
 
 -- after a slot: the sender's state, with what it holds before the next one
-pub record Left (p : PageTable) (words : List ℕ) (c : Cursor) (n : ℕ) (st : State) (last : Bool) (s : Sender) : Type 0 where
+pub record Left (p : PageTable) (words : List ℕ) (c : Cursor) (n : ℕ) (st : State) (s : Sender) : Type 0 where
   pub sent : List ℕ
   pub cursor : Cursor
   pub is : s ≡ stateFrom p sent cursor words
-  pub held : Held p n st last sent cursor
+  pub held : Held p n st sent cursor
   pub preamble : cursor .preamble ≡ c .preamble
   pub synced : cursor .synced ≡ 0
 
@@ -98,11 +93,11 @@ module _ (p : PageTable) (fit : Fit p) where
     unfolding holds contentAt
     held-content =
         ap (λ (s : ℕ). out (jobIn p) s (viewOf p sent c)) (h .slot)
-        ∙ out-alike (jobIn p) (viewOf p sent c) (stateAt (jobIn p) n) (h .page) (h .left) (h .marks) n
+        ∙ out-alike (jobIn p) (viewOf p sent c) (stateAt (jobIn p) n) (h .page) (h .left) (h .message) (h .marks) n
 
-    pub held-finished : finished p sent c ≡ cond (lastMessage (jobIn p) n) false (allOut (jobIn p) (stateAt (jobIn p) n))
+    pub held-finished : finished p sent c ≡ cond (stateAt (jobIn p) n .pause) false (allOut (jobIn p) (stateAt (jobIn p) n))
     unfolding finished
-    held-finished = rw (h .message, all-out-alike (jobIn p) (viewOf p sent c) (stateAt (jobIn p) n) (h .page) (h .left) (h .marks))
+    held-finished = rw (all-out-alike (jobIn p) (viewOf p sent c) (stateAt (jobIn p) n) (h .page) (h .left) (h .message) (h .marks), h .message)
 
     pub held-sound : n ≤ 4800 → declined p c ≡ false
     unfolding declined runWrong wrongAt Runs
@@ -121,14 +116,14 @@ module _ (p : PageTable) (fit : Fit p) where
             let k : c .page < p .count = omega (arith, r .1, h .page) in
             both-false (lt-leb _ _ k) (lt-leb _ _ w)
 
-    pub held-next : (words : List ℕ) → Left p words c (suc n) (stateAt (jobIn p) (suc n)) (lastMessage (jobIn p) (suc n)) (leaves (stateFrom p sent c words) (contentAt (jobIn p) n))
+    pub held-next : (words : List ℕ) → Left p words c (suc n) (stateAt (jobIn p) (suc n)) (leaves (stateFrom p sent c words) (contentAt (jobIn p) n))
     unfolding leaves
     held-next words = go _ _ (slot (jobIn p) n)
       where
         on : c .slot + 1 ≡ suc n
         on = omega (arith, h .slot)
 
-        go : (x : Content) (st′ : State) → Turn (jobIn p) n (stateAt (jobIn p) n) x st′ → Left p words c (suc n) st′ (isMessage x) (leaves (stateFrom p sent c words) x)
+        go : (x : Content) (st′ : State) → Turn (jobIn p) n (stateAt (jobIn p) n) x st′ → Left p words c (suc n) st′ (leaves (stateFrom p sent c words) x)
         go x st′ (runs l z) =
             let r : isSet (c .running) ≡ true = running-of (isSet (c .running)) (getD (p .lengths) (c .page) 0 - c .word) l (h .left ∙ z) in
             let w = h .runs r in

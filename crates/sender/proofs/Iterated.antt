@@ -13,6 +13,7 @@ use borrow.Author.Tests.{lt-ltb, eq-eqb, ne-eqb}
 use Rattle.codeword.specs.Code as code
 use Rattle.placement.specs.Placement.{stateAt, contentAt, isMessage, allOut, endsWith, batches}
 use Rattle.placement.proofs.Placed.{placed, out-all, some-batch}
+use Rattle.placement.proofs.Contents.{pause-is}
 use Rattle.transmission.specs.Transmission.{codewordIn, preamble, batchWord, wordAt, wordCount}
 use Rattle.transmission.proofs.TransmissionLaws.{word-in}
 use Rattle.sender.specs.declared.PageTable.{PageTable}
@@ -25,7 +26,7 @@ use Rattle.sender.specs.Start.{atFirst, begun}
 use Rattle.sender.specs.Stepping.{after}
 use Rattle.sender.proofs.Search.{set-flag, clear-flag}
 use Rattle.sender.proofs.Ways.{here, gavePreamble, gaveSync, gaveDone, way-sound, way-preamble, way-batch, way-done, way-sync, way-slot, way-in}
-use Rattle.sender.proofs.Held.{Fit, lastMessage, HeldAt, held-preamble, held-sync, held-first, held-content, held-finished, held-sound, held-next}
+use Rattle.sender.proofs.Held.{Fit, HeldAt, held-preamble, held-sync, held-first, held-content, held-finished, held-sound, held-next}
 
 -- the sender before word k: in the preamble, before a batch, or before slot r of batch q
 data Phase (p : PageTable) (k : ℕ) (sent : List ℕ) (c : Cursor) : Type 0 where
@@ -74,7 +75,7 @@ module _ (p : PageTable) (words : List ℕ) (fit : Fit p) where
 
   -- before slot n all is over
   abbrev over : ℕ → Bool
-  over n = cond (lastMessage (jobIn p) n) false (allOut (jobIn p) (stateAt (jobIn p) n))
+  over n = cond (stateAt (jobIn p) n .pause) false (allOut (jobIn p) (stateAt (jobIn p) n))
 
   -- at the start of batch q + 1 it is exactly where that is the number of batches
   over-at : (b : ℕ) → over (16 * suc b) ≡ endsWith (jobIn p) b
@@ -83,6 +84,7 @@ module _ (p : PageTable) (words : List ℕ) (fit : Fit p) where
       let e : 16 * suc b ≡ suc (16 * b + 15) = omega arith in
       let f : suc (16 * b + 15) ≡ 16 * b + 16 = omega arith in
       ap over e
+      ∙ ap (λ (m : Bool). cond m false (allOut (jobIn p) (stateAt (jobIn p) (suc (16 * b + 15))))) (pause-is (jobIn p) (16 * b + 15))
       ∙ turned (allOut (jobIn p) (stateAt (jobIn p) (suc (16 * b + 15)))) (isMessage (contentAt (jobIn p) (16 * b + 15)))
       ∙ ap (λ (n : ℕ). allOut (jobIn p) (stateAt (jobIn p) n) && not (isMessage (contentAt (jobIn p) (16 * b + 15)))) f
 
@@ -97,8 +99,12 @@ module _ (p : PageTable) (words : List ℕ) (fit : Fit p) where
       go true e = absurd (out-all (jobIn p) (stateAt (jobIn p) 0) e .1 0 (fit .some) first-unsent)
       go false e = e
 
+  first-open : over 0 ≡ false
+  unfolding stateAt
+  first-open = not-at-first
+
   goes-on : (q : ℕ) → q < batches (jobIn p) → over (16 * q) ≡ false
-  goes-on zero l = not-at-first
+  goes-on zero l = first-open
   goes-on (suc b) l = over-at b ∙ placed (jobIn p) (fit .framed) .soonest b (omega arith)
 
   all-over : (q : ℕ) → q ≡ batches (jobIn p) → over (16 * q) ≡ true

@@ -23,7 +23,7 @@ use Rattle.sender.specs.declared.Sender.{Sender}
 use Rattle.sender.specs.declared.Stepped.{Stepped}
 use Rattle.sender.specs.declared.Answer.{Answer}
 use Rattle.sender.specs.declared.Answer.the-variants.{Word}
-use Rattle.sender.specs.Step.{flagOf, wrongAt, runWrong, declined, jobIn, viewOf, holds, afterIdle, afterMessage, stateFrom, leaves, sends, inSlot, syncDue, finished, afterSync, inBatch, afterPreamble, fromSound, stepOf}
+use Rattle.sender.specs.Step.{isSet, flagOf, wrongAt, runWrong, declined, jobIn, viewOf, holds, afterIdle, afterMessage, stateFrom, leaves, sends, inSlot, syncDue, finished, afterSync, inBatch, afterPreamble, fromSound, stepOf}
 use Rattle.sender.specs.Plan.{said, unmarked, stateOf, PlanOk}
 use Rattle.sender.proofs.Search.{or-false, and-with, set-flag, clear-flag, found-none}
 use Rattle.sender.proofs.Ways.{here, way-declined, way-sound, way-preamble, way-batch, way-done, way-sync, way-slot, way-in}
@@ -94,7 +94,7 @@ module _ (p : PageTable) (sent : List ℕ) (c : Cursor) where
 
   -- ---- the two searches
 
-  pub found-is : least (λ i. mayStart (getD sent i 0) (getD (p .frames) i 0) (c .slot)) (p .count) ≡ found
+  pub found-is : least (λ i. mayStart (getD sent i 0) (getD (p .frames) i 0) (getD (p .lengths) i 0) (isSet (c .message)) (c .slot)) (p .count) ≡ found
   unfolding first ready
   found-is = refl
 

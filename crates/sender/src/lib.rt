@@ -233,25 +233,38 @@ fn is_declined<'a>(
 
 // ---- the searches
 
-// Whether a page with this flag and this frame may start in the slot.
-fn may_start(sent: u8, frame: u8, slot: u32) -> bool
-    ensures { λ r. ⌜ r ≡ mayStart sent frame slot ⌝ }
+// Whether a page with this flag, frame and number of message words may start in the slot: in a pause only a tone may.
+fn may_start(sent: u8, frame: u8, length: u16, pause: bool, slot: u32) -> bool
+    ensures { λ r. ⌜ r ≡ mayStart sent frame length pause slot ⌝ }
 {
     if sent != 0 {
         return false;
     }
-    wide8(frame) == slot % 16 / 2
+    if wide8(frame) != slot % 16 / 2 {
+        return false;
+    }
+    if pause {
+        return length == 0;
+    }
+    true
 }
 
 // The first page that may start in the slot, or the number of pages.
-fn find_page<'a>(count: u32, frames: &'a [u8; 48], sent: &'a [u8; 48], slot: u32) -> usize
+fn find_page<'a>(
+    count: u32,
+    lengths: &'a [u16; 48],
+    frames: &'a [u8; 48],
+    sent: &'a [u8; 48],
+    pause: bool,
+    slot: u32,
+) -> usize
     requires { ⌜ count ≤ 48 ⌝ }
-    ensures { λ r. ⌜ r ≡ least (λ i. mayStart (getD (now (sent .entry)) i 0) (getD (now (frames .entry)) i 0) slot) count ⌝ }
+    ensures { λ r. ⌜ r ≡ least (λ i. mayStart (getD (now (sent .entry)) i 0) (getD (now (frames .entry)) i 0) (getD (now (lengths .entry)) i 0) pause slot) count ⌝ }
 {
     let n = index(count);
     let mut i: usize = 0;
     while i < n {
-        if may_start(sent[i], frames[i], slot) {
+        if may_start(sent[i], frames[i], lengths[i], pause, slot) {
             break;
         }
         i += 1;
@@ -290,7 +303,7 @@ fn keep(output: Output, at: usize, sent: &[u8; 48], c: Cursor) -> Plan
     }
 }
 
-// A slot in which no message is running: the address of the first page that may start, or idle.
+// A slot in which no message is running: the address of the first page that may start, or idle. Directly behind a message it is a pause.
 fn plan_open<'a>(
     count: u32,
     addresses: &'a [u32; 48],
@@ -303,7 +316,7 @@ fn plan_open<'a>(
     requires { ⌜ c .running ≡ 0 ⌝ }
     ensures { λ r. ⌜ ((starts : List ℕ) → PlanOk inSlot (tableOf count (now (addresses .entry)) starts (now (lengths .entry)) (now (frames .entry))) (now (sent .entry)) c r) ⌝ }
 {
-    let k = find_page(count, frames, sent, c.slot);
+    let k = find_page(count, lengths, frames, sent, c.message != 0, c.slot);
     let mut n = c;
     n.slot = c.slot + 1;
     n.synced = 0;

@@ -151,7 +151,7 @@ module _ (s : List ℕ) (n : ℕ) (ok : jobOf s ≡ Accepted n) (pages : Pages) 
 -- ---- what is reported, and what is written
 
 module _ {s : List ℕ} {n : ℕ} {groups places : List ℕ} {b : ℕ} (r : Prepared s n groups places b) where
-  pub few-batches : b ≤ 298
+  pub few-batches : b ≤ 300
   few-batches = rw (r .total) (sendings-limits (accepted-sendings s n (r .accepted)) .most)
 
   pub plan : {room : ℕ} → room ≡ 18 + 17 * b → Planned (sendingsOf s) groups places room

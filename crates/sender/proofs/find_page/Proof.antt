@@ -12,14 +12,14 @@ use borrow.Author.Needs.{needs}
 use Rattle.sender.proofs.find_page.Statement.{statement}
 use Rattle.sender.proofs.find_page.Tie as tie
 
-abbrev may : List ℕ → List ℕ → ℕ → ℕ → Bool
-may frames sent slot k = mayStart (getD sent k 0) (getD frames k 0) slot
+abbrev may : List ℕ → List ℕ → List ℕ → Bool → ℕ → ℕ → Bool
+may lengths frames sent pause slot k = mayStart (getD sent k 0) (getD frames k 0) (getD lengths k 0) pause slot
 
 abbrev Inv-loop : tie.InvT-loop
-Inv-loop count frames sent slot n i₀ i = (i ≤ n) × ((k : ℕ) → k < i → may frames sent slot k ≡ false)
+Inv-loop count lengths frames sent pause slot n i₀ i = (i ≤ n) × ((k : ℕ) → k < i → may lengths frames sent pause slot k ≡ false)
 
 abbrev μ-loop : tie.MeasureT-loop
-μ-loop count frames sent slot n i₀ i = n - i
+μ-loop count lengths frames sent pause slot n i₀ i = n - i
 
 index-requires : tie.Need-index-requires Inv-loop μ-loop
 index-requires c κs = search needs
@@ -33,6 +33,12 @@ element-copy-out-may-start c = search needs
 element-copy-out-may-start-2 : tie.Need-element-copy-out-may-start-2 Inv-loop μ-loop
 element-copy-out-may-start-2 c = search needs
 
+mul-may-start : tie.Need-mul-may-start Inv-loop μ-loop
+mul-may-start c = search needs
+
+element-copy-out-may-start-3 : tie.Need-element-copy-out-may-start-3 Inv-loop μ-loop
+element-copy-out-may-start-3 c = search needs
+
 may-start-requires : tie.Need-may-start-requires Inv-loop μ-loop
 may-start-requires c κs = search needs
 
@@ -44,21 +50,21 @@ loop-less c = search needs
 
 loop-again : tie.Need-loop-again Inv-loop μ-loop
 loop-again c =
-    let a = c .before .before .before .before .before .before .before .args in
-    let l = c .before .before .before .before .before .loop in
-    (omega arith, below-more (λ k. may (a .frames .now) (a .sent .now) (a .slot) k ≡ false) (l .i) (l .inv .1) (sym (c .before .may-start .ensures) ∙ c .if1 .left))
+    let a = c .before .before .before .before .before .before .before .before .args in
+    let l = c .before .before .before .before .before .before .loop in
+    (omega arith, below-more (λ k. may (a .lengths .now) (a .frames .now) (a .sent .now) (a .pause) (a .slot) k ≡ false) (l .i) (l .inv .1) (sym (c .before .may-start .ensures) ∙ c .if1 .left))
 
 returns : tie.Need-returns Inv-loop μ-loop
 returns c =
     let a = c .before .before .before .args in
     let l = c .before .loop in
-    sym (least-only (may (a .frames .now) (a .sent .now) (a .slot)) (a .count) (l .i) (record { within = omega arith; before = l .inv .1; here = λ m. absurd (omega arith) }))
+    sym (least-only (may (a .lengths .now) (a .frames .now) (a .sent .now) (a .pause) (a .slot)) (a .count) (l .i) (record { within = omega arith; before = l .inv .1; here = λ m. absurd (omega arith) }))
 
 returns-2 : tie.Need-returns-2 Inv-loop μ-loop
 returns-2 c =
-    let a = c .before .before .before .before .before .before .before .args in
-    let l = c .before .before .before .before .before .loop in
-    sym (least-only (may (a .frames .now) (a .sent .now) (a .slot)) (a .count) (l .i) (record { within = omega arith; before = l .inv .1; here = λ _. sym (c .before .may-start .ensures) ∙ c .if1 .taken }))
+    let a = c .before .before .before .before .before .before .before .before .args in
+    let l = c .before .before .before .before .before .before .loop in
+    sym (least-only (may (a .lengths .now) (a .frames .now) (a .sent .now) (a .pause) (a .slot)) (a .count) (l .i) (record { within = omega arith; before = l .inv .1; here = λ _. sym (c .before .may-start .ensures) ∙ c .if1 .taken }))
 
 pub find-page-spec : {M : Type 1} → statement M
 find-page-spec =
@@ -70,6 +76,8 @@ find-page-spec =
     loop-holds
     element-copy-out-may-start
     element-copy-out-may-start-2
+    mul-may-start
+    element-copy-out-may-start-3
     may-start-requires
     add-i
     loop-less

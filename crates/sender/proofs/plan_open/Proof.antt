@@ -24,7 +24,7 @@ keep-requires c κs = search needs
 
 returns : tie.Need-returns
 returns c = λ starts.
-    let b = c .before .before .before .before .before .before in
+    let b = c .before .before .before .before .before .before .before in
     let a = b .args in
     let p = (tableOf (a .count) (a .addresses .now) starts (a .lengths .now) (a .frames .now)) in
     let e = c .before .before .before .before .before .find-page .ensures ∙ found-is p (a .sent .now) (a .c) in
@@ -42,15 +42,15 @@ element-copy-out-flag c = search needs
 flag-requires : tie.Need-flag-requires
 flag-requires c κs = search needs
 
-mul-t9 : tie.Need-mul-t9
-mul-t9 c = search needs
+mul-t10 : tie.Need-mul-t10
+mul-t10 c = search needs
 
 element-copy-out-t19 : tie.Need-element-copy-out-t19
 element-copy-out-t19 c = search needs
 
 returns-2 : tie.Need-returns-2
 returns-2 c = λ starts.
-    let b = c .before .before .before .before .before .before .before in
+    let b = c .before .before .before .before .before .before .before .before in
     let a = b .args in
     let p = (tableOf (a .count) (a .addresses .now) starts (a .lengths .now) (a .frames .now)) in
     let k = c .before .before .before .before .before .before .find-page in
@@ -70,6 +70,6 @@ plan-open-spec =
     mul-flag
     element-copy-out-flag
     flag-requires
-    mul-t9
+    mul-t10
     element-copy-out-t19
     returns-2)
