@@ -95,7 +95,7 @@ struct card_sender {
         uint8_t preamble;       /* words of the preamble still to come */
         uint8_t synced;         /* a flag is set where it is not 0: the batch's sync is out and its first slot is not */
         uint8_t running;        /* a message is running */
-        uint8_t message;        /* the last slot held a message codeword */
+        uint8_t message;        /* the last slot held a message codeword: where none is running, only a tone may start in the next */
     } cursor;
     struct {
         uint32_t count;

@@ -52,6 +52,16 @@ int main(void) {
     state.cursor.running = 1;
     EXPECT(card_step(&state).number == 11);
 
+    /* the flag message makes an open slot the pause: a page with message codewords waits for the next one, a tone does not */
+    for (uint16_t length = 0; length < 2; length++) {
+        card_start(job, sizeof job - 1, &state);
+        state.cursor.preamble = 0; state.cursor.slot = 2; state.cursor.message = 255; state.pages.lengths[0] = length;
+        a = card_step(&state);
+        EXPECT(a.word == (length ? 0x7A89C197 : 0x000026EC) && (state.sent[0] == 0) == (length != 0) && state.cursor.message == 0);
+        a = card_step(&state);
+        EXPECT(a.word == (length ? 0x000026EC : 0x7A89C197) && state.sent[0] != 0);
+    }
+
     /* a declined start leaves the state as it was */
     memcpy(&kept, &state, sizeof state);
     r = card_start((const uint8_t *)"000009 0\n200000 0\n", 18, &state);

@@ -9,9 +9,9 @@ multimon-ng comes with `apt-get install multimon-ng`. Where it is missing the ch
 Each job is sent, its listing is made into sound, and multimon-ng, which knows nothing of this library, says what it hears. Its
 lines must be the job's pages, each with address, function and text, in the order in which their addresses go out. That order
 is worked out here, from the rule for the slots alone. The fixed jobs have every function in every frame, every bit of an
-address, the neighbours of the reserved addresses, every length of both kinds of text, every character, and messages that end
-just before, on and after the end of a batch. The drawn jobs mix all of these. The first difference is printed with its job,
-and the exit status is then 1.
+address, the neighbours of the reserved addresses, every length of both kinds of text, every character, messages that end
+just before, on and after the end of a batch, and pauses after a message in which messages and tones wait. The drawn jobs mix
+all of these. The first difference is printed with its job, and the exit status is then 1.
 
 The sound: 22050 samples a second, 16 bits each with sign, low byte first. A one is a low level and a zero a high one (the
 other way round multimon-ng hears nothing). Every job is heard at 512 and at 1200 bits a second. After the listing come 96 bits
@@ -92,16 +92,16 @@ def message_words(page):
 
 
 def sending_order(job):
-    """The pages by the slots of their addresses: a slot that no message needs takes the first waiting page of its frame."""
-    waiting, order, slot = list(job), [], 0
+    """The pages by the slots of their addresses: a slot that no message needs takes the first waiting page of its frame, and the
+    slot directly after a message, its pause, the first waiting tone of its frame."""
+    waiting, order, slot, pause = list(job), [], 0, False
     while waiting:
-        page = next((p for p in waiting if p[0] % 8 == slot % 16 // 2), None)
-        if page is None:
-            slot += 1
-        else:
+        page = next((p for p in waiting if p[0] % 8 == slot % 16 // 2 and not (pause and message_words(p))), None)
+        slot, pause = slot + 1, False
+        if page is not None:
             waiting.remove(page)
             order.append(page)
-            slot += 1 + message_words(page)
+            slot, pause = slot + message_words(page), message_words(page) > 0
     return order
 
 
@@ -247,6 +247,16 @@ def fixed_jobs(rng):
                 page = (some + frame, ALPHA, bytes(rng.choice(PRINTABLE) for _ in range(words * 20 // 7)))
                 yield [page]
                 yield [page, (some + 7, 1, b""), (some, 2, b"")]
+    # Pauses after a message: in a frame's first slot and its second, in the last ones of a batch, and in the first ones behind a
+    # sync. Messages and tones of that frame wait, and a tone of the next frame shows where a message had to wait longer.
+    for words in (1, 2, 13, 14, 15, 16):
+        frame = (1 + words) % 16 // 2
+        first = (some, ALPHA, PRINTABLE[:words * 20 // 7])
+        message, tone, later = (some + 8 + frame, NUMERIC, b"1"), (some + 8 + frame, 1, b""), (some + 16 + (frame + 1) % 8, 2, b"")
+        yield [first, message, later]
+        yield [first, message, tone, later]
+        yield [first, message, message, tone, tone, later]
+        yield [first, tone, message, later]
     # Full frames; a last word that is an address; messages in the last slots.
     yield [(some + 7, 1, b""), (some + 15, 2, b"")]
     yield [(some, 0, b"")] * 3

@@ -35,7 +35,7 @@ pub struct Cursor {
     pub synced: u8,
     // Flag: a message is running.
     pub running: u8,
-    // Flag: the last slot held a message codeword.
+    // Flag: the last slot held a message codeword. Where no message is running, the next slot is the pause after it.
     pub message: u8,
 }
 

@@ -41,6 +41,10 @@ pub const FAULTS: &[&str] = &[
     "writes-when-11",
     "writes-when-done",
     "writes-a-message-word",
+    "no-pause",
+    "no-pause-behind-a-sync",
+    "no-tone-in-the-pause",
+    "no-overtaking-in-the-pause",
 ];
 
 fn is(fault: &str) -> bool {
@@ -272,7 +276,7 @@ unsafe extern "C" fn card_step(state: *mut Sender) -> Step {
         cursor.synced = 1;
         return Step::word(codeword::SYNC);
     }
-    let frame = cursor.slot % 16 / 2;
+    let in_batch = cursor.slot % 16;
     cursor.synced = 0;
     cursor.slot += 1;
     if cursor.running != 0 {
@@ -287,8 +291,13 @@ unsafe extern "C" fn card_step(state: *mut Sender) -> Step {
         }
         return Step::word(word);
     }
+    // in the pause after a message only a tone may start
+    let pause = cursor.message != 0 && !is("no-pause") && !(is("no-pause-behind-a-sync") && in_batch == 0);
     cursor.message = 0;
-    match (0..counted).find(|&page| sent[page] == 0 && u32::from(pages.frames[page]) == frame) {
+    let mut waiting = (0..counted).filter(|&page| sent[page] == 0 && u32::from(pages.frames[page]) == in_batch / 2);
+    let may_start = |&page: &usize| !pause || pages.lengths[page] == 0 && !is("no-tone-in-the-pause");
+    let next = if is("no-overtaking-in-the-pause") { waiting.next().filter(may_start) } else { waiting.find(may_start) };
+    match next {
         Some(page) => {
             sent[page] = 1;
             cursor.page = page as u32;

@@ -116,6 +116,23 @@ pub fn alphanumeric(random: &mut Random, count: usize, length: usize, frames: &[
     job
 }
 
+/// A job as late as any: the second slot of frame 7 is each message's pause, so that every address and the number of batches are at
+/// the bounds of demand 3. No job takes more than its 289 batches.
+pub fn latest(random: &mut Random) -> Vec<u8> {
+    let words = [[80; 47].as_slice(), &[84]].concat();
+    words.into_iter().flat_map(|words| page_of_words(random, 7, words)).collect()
+}
+
+/// A page in a frame with so many message codewords, up to 84; a tone with none.
+fn page_of_words(random: &mut Random, frame: u32, words: usize) -> Vec<u8> {
+    let identity = identity(random, &[frame]);
+    match words {
+        0 => line(identity, random.below(4) as u32, &[]),
+        1..=12 if random.once_in(2) => line(identity, 4, &numeric_text(random, 5 * words)),
+        _ => line(identity, 5, &alphanumeric_text(random, 20 * words / 7)),
+    }
+}
+
 /// A job whose last codeword falls on the last slot of a batch, or next to it.
 fn near_the_batch_end(random: &mut Random) -> Vec<u8> {
     let mut job = Vec::new();
@@ -125,14 +142,26 @@ fn near_the_batch_end(random: &mut Random) -> Vec<u8> {
     }
     let frame = random.below(8) as u32;
     let words = (15 - 2 * frame as usize + 16 * random.below(5) + random.below(3)).saturating_sub(1);
-    let identity = identity(random, &[frame]);
-    let last = match words {
-        0 => line(identity, random.below(4) as u32, &[]),
-        1..=12 if random.once_in(2) => line(identity, 4, &numeric_text(random, 5 * words)),
-        1..=84 => line(identity, 5, &alphanumeric_text(random, words * 20 / 7)),
-        _ => line(identity, 5, &alphanumeric_text(random, 240)),
-    };
-    job.extend(last);
+    job.extend(page_of_words(random, frame, words));
+    job
+}
+
+/// A job full of pauses after messages: tones and messages wait in a few frames next to each other, the tones mostly behind the
+/// messages, and the messages end just before one of these frames or in it.
+fn around_the_pause(random: &mut Random) -> Vec<u8> {
+    // frame 0 often, so that there are pauses behind a sync
+    let first = if random.once_in(2) { random.pick(&[0, 6, 7]) } else { random.below(8) };
+    let frames: Vec<usize> = (first..first + random.between(1, 3)).map(|frame| frame % 8).collect();
+    let count = random.pick(&[2, 3, 4, 6, 10, 20, 48]);
+    let mut job = Vec::new();
+    for page in 0..count {
+        let frame = random.pick(&frames);
+        let address = 2 * frame + random.below(2);
+        let pause = 2 * random.pick(&frames) + random.below(2);
+        let words = (15 + pause - address) % 16 + 16 * random.below(5);
+        let tone = random.below(count) < page;
+        job.extend(page_of_words(random, frame as u32, if tone { 0 } else { words }));
+    }
     job
 }
 
@@ -144,7 +173,7 @@ pub fn good(random: &mut Random) -> Vec<u8> {
         1 => random.between(24, 48),
         _ => random.between(1, 16),
     };
-    match random.below(12) {
+    match random.below(14) {
         0 | 1 => page(random),
         2 | 3 => pages(random, count, ALL_FRAMES, ALL_KINDS),
         4 => pages(random, count, &frame, ALL_KINDS),
@@ -157,6 +186,7 @@ pub fn good(random: &mut Random) -> Vec<u8> {
         8 => pages(random, count, ALL_FRAMES, &[4]),
         9 => page(random).repeat(count),
         10 => near_the_batch_end(random),
+        11 | 12 => around_the_pause(random),
         _ if random.once_in(4) => {
             let frames = if random.once_in(2) { &frame[..] } else { ALL_FRAMES };
             maximal(random, frames)
@@ -304,9 +334,28 @@ fn short_pages(random: &mut Random, count: usize) -> Vec<u8> {
     job
 }
 
+/// Every slot of a batch as the pause after a message, and behind that message, in every order, up to three tones and messages in the
+/// frame of the pause and in the next; the same in every run.
+fn pauses() -> Vec<Vec<u8>> {
+    let mut jobs = vec![];
+    for words in 1..=16 {
+        // from slot 0 on
+        let message = line(8, 5, &vec![b'A'; 20 * words / 7]);
+        let frame = (1 + words as u32) % 16 / 2;
+        let next = (frame + 1) % 8;
+        let behind = [line(frame, 1, b""), line(frame, 4, b"1"), line(next, 2, b""), line(next, 5, b"AB")];
+        let mut longest = vec![message];
+        for _ in 0..3 {
+            longest = longest.iter().flat_map(|job| behind.iter().map(move |page| [&job[..], page].concat())).collect();
+            jobs.extend_from_slice(&longest);
+        }
+    }
+    jobs
+}
+
 /// Jobs on both sides of every limit, the same in every run.
 pub fn limits() -> Vec<Vec<u8>> {
-    let mut jobs = vec![];
+    let mut jobs = pauses();
     // identities by kinds
     let mut identities = vec![0, 1, 0x20_0000, 0x20_0001, 0x3E_A270, 0x3F_3480, 0xFF_FFFF];
     for edge in EDGES.iter().chain(RESERVED) {
@@ -399,7 +448,8 @@ pub fn limits() -> Vec<Vec<u8>> {
 mod tests {
     use super::*;
     use independent::job::parse;
-    use std::collections::BTreeSet;
+    use independent::send::{Accepted, Sender};
+    use std::collections::{BTreeMap, BTreeSet};
 
     #[test]
     fn good_jobs_are_accepted() {
@@ -434,6 +484,74 @@ mod tests {
         assert!((0..=8).all(|number| met.contains(&number)), "{met:?}");
         let met: BTreeSet<u32> = limits().iter().map(|job| parse(job).map_or_else(|refusal| refusal.number, |_| 0)).collect();
         assert_eq!(met, (0..=9).collect());
+    }
+
+    /// Counts the pauses of a job in which pages wait, by their slot (behind a sync, a frame's first, its second) and by who waits.
+    fn count_pauses(job: &[u8], counts: &mut BTreeMap<(&str, &str), usize>) {
+        let Accepted { pages, placement } = Accepted::new(job).unwrap();
+        let slots = &placement.slots;
+        for (page, slot) in pages.iter().zip(slots).filter(|(page, _)| page.message_words() > 0) {
+            let pause = slot + page.message_words() as u32 + 1;
+            let waits = |&at: &usize| pages[at].frame() == pause % 16 / 2 && slots[at] >= pause;
+            let waiting: Vec<usize> = (0..pages.len()).filter(waits).collect();
+            let tone = waiting.iter().position(|&at| pages[at].message_words() == 0);
+            assert_eq!(tone.map(|at| waiting[at]), slots.iter().position(|&slot| slot == pause));
+            let who = match tone {
+                None if waiting.is_empty() => continue,
+                None => "a message waits on",
+                Some(0) => "a tone is first",
+                Some(_) => "a tone overtakes",
+            };
+            let place = match pause % 16 {
+                0 => "behind a sync",
+                slot if slot % 2 == 0 => "first slot",
+                _ => "second slot",
+            };
+            *counts.entry((place, who)).or_default() += 1;
+        }
+    }
+
+    #[test]
+    fn every_pause_is_met() {
+        let mut random = Random::new(5);
+        let (mut fixed, mut drawn) = (BTreeMap::new(), BTreeMap::new());
+        pauses().iter().for_each(|job| count_pauses(job, &mut fixed));
+        (0..1000).for_each(|_| count_pauses(&good(&mut random), &mut drawn));
+        for counts in [fixed, drawn] {
+            assert!(counts.len() == 9 && counts.values().all(|&count| count >= 10), "{counts:?}");
+        }
+    }
+
+    /// The bounds of demand 3 less what the job takes: of the addresses in the order in which they go out, and of the batches.
+    fn to_spare(job: &[u8]) -> (Vec<u32>, u32) {
+        let Accepted { pages, placement } = Accepted::new(job).unwrap();
+        let words = pages.iter().map(|page| page.message_words() as u32);
+        let mut sent: Vec<(u32, u32)> = placement.slots.iter().copied().zip(words).collect();
+        sent.sort();
+        let mut before = 0;
+        let mut spare = vec![];
+        for (k, (slot, words)) in (1u32..).zip(sent) {
+            spare.push((16 * k - 2 + before).checked_sub(slot).expect("the address is in time"));
+            before += words;
+        }
+        let batches = (16 * pages.len() as u32 + before - 1) / 16 + 1;
+        (spare, batches.checked_sub(placement.batches).expect("few batches"))
+    }
+
+    #[test]
+    fn bounds_are_kept_and_met() {
+        let mut random = Random::new(6);
+        let latest = latest(&mut random);
+        assert_eq!(to_spare(&latest), (vec![0; 48], 0));
+        assert_eq!(Accepted::new(&latest).unwrap().placement.batches, 289);
+        let mut jobs = pauses();
+        jobs.extend((0..1000).map(|_| good(&mut random)));
+        for job in jobs {
+            to_spare(&job);
+            let words = Accepted::new(&job).unwrap().words();
+            assert!(words.len() <= 18 + 17 * 289);
+            assert!(Sender::start(&job).unwrap().eq(words));
+        }
     }
 
     #[test]

@@ -62,7 +62,7 @@ pub fn one_long_page(random: &mut Random, batches: usize) -> Vec<u32> {
     words
 }
 
-/// Batches that are full: long alphanumeric pages one behind the other.
+/// Batches that are full: long alphanumeric pages one behind the other, without the pause that a sender makes.
 pub fn full_batches(random: &mut Random, batches: usize) -> Vec<u32> {
     let mut words = Vec::with_capacity(BATCH * batches);
     let mut left = 0;

@@ -21,7 +21,7 @@ impl Placement {
     }
 }
 
-/// Where the pages of a job go. Each frame has its own queue, in job order.
+/// Where the pages of a job go. Each frame has its own queue, in job order; in the pause after a message only a tone may leave it.
 pub fn place(pages: &[Page]) -> Placement {
     let mut queues: [VecDeque<usize>; 8] = Default::default();
     for (index, page) in pages.iter().enumerate() {
@@ -30,22 +30,31 @@ pub fn place(pages: &[Page]) -> Placement {
     let mut slots = vec![0; pages.len()];
     let mut unsent = pages.len();
     let mut slot = 0;
-    let mut last_is_message = false;
+    let mut pause = false;
     while unsent > 0 {
-        let frame = slot % BATCH_SLOTS / 2;
-        match queues[frame as usize].pop_front() {
+        let queue = &mut queues[(slot % BATCH_SLOTS / 2) as usize];
+        let next = if pause {
+            let tone = queue.iter().position(|&index| pages[index].message_words() == 0);
+            tone.and_then(|place| queue.remove(place))
+        } else {
+            queue.pop_front()
+        };
+        match next {
             Some(index) => {
                 let message_words = pages[index].message_words() as u32;
                 slots[index] = slot;
                 slot += 1 + message_words;
-                last_is_message = message_words > 0;
+                pause = message_words > 0;
                 unsent -= 1;
             }
-            None => slot += 1,
+            None => {
+                slot += 1;
+                pause = false;
+            }
         }
     }
-    let full = slot % BATCH_SLOTS == 0;
-    let batches = slot.div_ceil(BATCH_SLOTS) + u32::from(full && last_is_message);
+    // where the pause would open a new batch, a message codeword has the last slot
+    let batches = slot.div_ceil(BATCH_SLOTS) + u32::from(pause && slot % BATCH_SLOTS == 0);
     Placement { slots, batches }
 }
 
@@ -69,6 +78,10 @@ mod tests {
         Page { identity: frame, kind: 4, text: vec![b'1'; 5 * message_words] }
     }
 
+    fn alphanumeric(frame: u32, message_words: usize) -> Page {
+        Page { identity: frame, kind: ALPHANUMERIC, text: vec![b'A'; 20 * message_words / 7] }
+    }
+
     fn placed(pages: &[Page]) -> (Vec<u32>, u32) {
         let placement = place(pages);
         (placement.slots, placement.batches)
@@ -80,9 +93,8 @@ mod tests {
         assert_eq!(placed(&[tone(7), tone(7)]), (vec![14, 15], 1));
         assert_eq!(placed(&[numeric(7, 1)]), (vec![14], 2));
         assert_eq!(placed(&[tone(0), tone(0), tone(0)]), (vec![0, 1, 16], 2));
-        let fifteen = Page { identity: 1, kind: ALPHANUMERIC, text: vec![b'A'; 42] };
-        assert_eq!(fifteen.message_words(), 15);
-        assert_eq!(placed(&[fifteen, tone(0), tone(1)]), (vec![2, 0, 18], 2));
+        assert_eq!(placed(&[alphanumeric(1, 15), tone(0), tone(1)]), (vec![2, 0, 18], 2));
+        assert!((1..=84).all(|words| alphanumeric(0, words).message_words() == words));
     }
 
     #[test]
@@ -97,6 +109,62 @@ mod tests {
         assert_eq!(placed(&[numeric(3, 10)]).1, 2);
         // behind a message that ends in slot 14 an address in slot 15 needs no batch of idles
         assert_eq!(placed(&[numeric(3, 8), tone(7)]), (vec![6, 15], 1));
+        // a message doesn't get that slot: it is the pause. In 30 and 31 it takes a batch of idles again
+        assert_eq!(placed(&[numeric(3, 8), numeric(7, 1)]), (vec![6, 30], 3));
+        assert_eq!(placed(&[numeric(3, 8), numeric(7, 2)]), (vec![6, 30], 3));
+        assert_eq!(placed(&[numeric(3, 8), numeric(7, 1), tone(7)]), (vec![6, 30, 15], 3));
+    }
+
+    #[test]
+    fn the_pause() {
+        // message in slot 3, pause in 4: another message takes the frame's second slot, a tone the pause
+        assert_eq!(placed(&[numeric(1, 1), numeric(2, 1)]), (vec![2, 5], 1));
+        assert_eq!(placed(&[numeric(1, 1), tone(2)]), (vec![2, 4], 1));
+        // message in slots 3 and 4, pause in 5: the frame has no slot left in this batch
+        assert_eq!(placed(&[numeric(1, 2), numeric(2, 1)]), (vec![2, 20], 2));
+        assert_eq!(placed(&[numeric(1, 2), tone(2)]), (vec![2, 5], 1));
+        // the same frame again
+        assert_eq!(placed(&[alphanumeric(1, 15), numeric(1, 1)]), (vec![2, 19], 2));
+        assert_eq!(placed(&[alphanumeric(1, 16), numeric(1, 1)]), (vec![2, 34], 3));
+        assert_eq!(placed(&[alphanumeric(1, 16), tone(1)]), (vec![2, 19], 2));
+        // a frame further on isn't held up
+        assert_eq!(placed(&[numeric(1, 1), numeric(3, 1)]), (vec![2, 6], 1));
+        // a tone is followed by no pause
+        assert_eq!(placed(&[tone(1), numeric(1, 1)]), (vec![2, 3], 1));
+    }
+
+    #[test]
+    fn a_tone_overtakes_in_the_pause() {
+        assert_eq!(placed(&[numeric(1, 1), numeric(2, 1), tone(2)]), (vec![2, 5, 4], 1));
+        assert_eq!(placed(&[numeric(1, 1), tone(2), numeric(2, 1)]), (vec![2, 4, 5], 1));
+        assert_eq!(placed(&[numeric(1, 2), numeric(2, 1), tone(2)]), (vec![2, 20, 5], 2));
+        // any number of messages, but only one tone: behind it the job's order holds again
+        assert_eq!(placed(&[numeric(1, 1), numeric(2, 1), numeric(2, 1), tone(2), tone(2)]), (vec![2, 5, 20, 4, 36], 3));
+        assert_eq!(placed(&[numeric(1, 1), tone(2), tone(2), numeric(2, 1)]), (vec![2, 4, 5, 20], 2));
+        // a tone of another frame doesn't
+        assert_eq!(placed(&[numeric(1, 1), numeric(2, 1), tone(3)]), (vec![2, 5, 7], 1));
+    }
+
+    #[test]
+    fn the_pause_behind_a_sync() {
+        // the message ends in slot 15, the pause is slot 16
+        assert_eq!(placed(&[alphanumeric(0, 15)]), (vec![0], 2));
+        assert_eq!(placed(&[alphanumeric(0, 15), numeric(0, 1)]), (vec![0, 17], 2));
+        assert_eq!(placed(&[alphanumeric(0, 15), tone(0)]), (vec![0, 16], 2));
+        assert_eq!(placed(&[alphanumeric(0, 15), numeric(0, 1), tone(0)]), (vec![0, 17, 16], 2));
+        // a slot earlier and a slot later
+        assert_eq!(placed(&[alphanumeric(0, 14), numeric(0, 1)]), (vec![0, 16], 2));
+        assert_eq!(placed(&[alphanumeric(0, 16), numeric(0, 1)]), (vec![0, 32], 3));
+    }
+
+    #[test]
+    fn as_late_as_can_be() {
+        // each pause is the second slot of frame 7: the k-th address and the batches are at demand 3's bounds
+        for count in [1, 2, 3, 47, 48] {
+            let slots = (1..=count).map(|k| 16 * k - 2 + 80 * (k - 1)).collect();
+            let pages = vec![alphanumeric(7, 80); count as usize];
+            assert_eq!(placed(&pages), (slots, (16 * count + 80 * count - 1) / 16 + 1));
+        }
     }
 
     #[test]

@@ -113,8 +113,9 @@ impl Sender {
             self.last_was_message = true;
             return self.message_words[index];
         }
-        self.last_was_message = false;
-        match self.unsent.iter().position(|page| page.frame == frame) {
+        // in the pause after a message only a tone may start
+        let pause = std::mem::take(&mut self.last_was_message);
+        match self.unsent.iter().position(|page| page.frame == frame && (page.message.is_empty() || !pause)) {
             Some(first) => {
                 let page = self.unsent.remove(first);
                 self.running = page.message;
@@ -195,6 +196,7 @@ mod tests {
             "000000 0\n".repeat(3),
             long.clone() + "000000 2\n000001 1\n",
             long.repeat(48),
+            "000001 4 31\n000002 4 31\n000002 2\n".to_owned(),
         ] {
             let words = Accepted::new(job.as_bytes()).unwrap().words();
             let mut sender = Sender::start(job.as_bytes()).unwrap();
@@ -205,5 +207,28 @@ mod tests {
             assert_eq!(words.iter().filter(|&&word| word == SYNC).count(), (words.len() - 18) / 17);
         }
         assert_eq!(Sender::start(b"").err(), Some(Refusal::new(9, 0)));
+    }
+
+    /// Three pages, tones or messages, in frames about a batch's end; the messages end about these frames.
+    #[test]
+    fn steps_around_the_pause() {
+        let mut lines = vec![];
+        for identity in [0, 1, 7] {
+            for words in [0, 1, 2, 13, 14, 15, 16] {
+                let kind = if words == 0 { 1 } else { job::ALPHANUMERIC };
+                let mut line = vec![];
+                Page { identity, kind, text: vec![b'A'; 20 * words / 7] }.print(&mut line);
+                lines.push(line);
+            }
+        }
+        for one in &lines {
+            for two in &lines {
+                for three in &lines {
+                    let job = [&one[..], two, three].concat();
+                    let words = Accepted::new(&job).unwrap().words();
+                    assert!(Sender::start(&job).unwrap().eq(words), "{}", String::from_utf8_lossy(&job));
+                }
+            }
+        }
     }
 }

@@ -122,8 +122,9 @@ fn limits(comparison: &mut Comparison) -> Outcome {
     }
     // the largest jobs
     let mut random = Random::new(0);
-    for frame in 0..8 {
-        let job = jobs::maximal(&mut random, &[frame]);
+    let mut largest: Vec<Vec<u8>> = (0..8).map(|frame| jobs::maximal(&mut random, &[frame])).collect();
+    largest.push(jobs::latest(&mut random));
+    for job in largest {
         comparison.job(&job)?;
         comparison.send(&job, card::WORDS, card::PAGES)?;
         comparison.list(&job, card::LISTING_BYTES)?;
