@@ -41,8 +41,9 @@ fn unmark(marks: &mut [u32])
     }
 }
 
-// Whether a page with this mark, frame and number of message codewords may start in this slot: in a pause only a tone may.
-fn may_start(mark: u32, frame: u8, words: u32, pause: bool, slot: u32) -> bool
+// Whether a page with this mark, frame and number of message codewords may start in this slot: in a pause only a tone may. The rule has
+// this one home; the library's placement and its steps ask it.
+pub fn may_start(mark: u32, frame: u8, words: u32, pause: bool, slot: u32) -> bool
     ensures { λ r. ⌜ r ≡ mayStart mark frame words pause slot ⌝ }
 {
     if mark != 0 {

@@ -233,22 +233,6 @@ fn is_declined<'a>(
 
 // ---- the searches
 
-// Whether a page with this flag, frame and number of message words may start in the slot: in a pause only a tone may.
-fn may_start(sent: u8, frame: u8, length: u16, pause: bool, slot: u32) -> bool
-    ensures { λ r. ⌜ r ≡ mayStart sent frame length pause slot ⌝ }
-{
-    if sent != 0 {
-        return false;
-    }
-    if wide8(frame) != slot % 16 / 2 {
-        return false;
-    }
-    if pause {
-        return length == 0;
-    }
-    true
-}
-
 // The first page that may start in the slot, or the number of pages.
 fn find_page<'a>(
     count: u32,
@@ -264,7 +248,7 @@ fn find_page<'a>(
     let n = index(count);
     let mut i: usize = 0;
     while i < n {
-        if may_start(sent[i], frames[i], lengths[i], pause, slot) {
+        if placement::may_start(wide8(sent[i]), frames[i], wide16(lengths[i]), pause, slot) {
             break;
         }
         i += 1;
