@@ -1,8 +1,8 @@
 -- What the sent words of a job, in buffers that suffice for every job, say of its listing. Assumes nothing.
-use Prim.Native.Nat.{ℕ, _+_, _*_, _≤_, _<_}
-use mathlib.Core.Path.{_≡_, refl, sym, ap, _∙_}
-use mathlib.Core.Bool.{Bool, true, false, cond, _||_}
-use mathlib.Core.List.{List, [], _∷_, _++_}
+use Prim.Native.Nat.{ℕ, _*_, _≤_}
+use mathlib.Core.Path.{_≡_, refl, sym, _∙_}
+use mathlib.Core.Bool.{Bool, true, false, cond}
+use mathlib.Core.List.{List}
 use native.Mathlib.Omega.{arith}
 use lib.ListN.{length, take, drop}
 use lib.Seq.{take-at}
@@ -13,7 +13,6 @@ use Rattle.job.specs.Job.{jobOf}
 use Rattle.job.specs.declared.Refusal.{Refusal}
 use Rattle.job.specs.declared.JobAnswer.{JobAnswer}
 use Rattle.job.specs.declared.JobAnswer.the-variants.{Accepted, Refused}
-use Rattle.job.specs.Accepted.{AcceptedJob}
 use Rattle.listing.specs.Text.{textOf}
 use Rattle.listing.specs.Answers.{writingOf}
 use Rattle.listing.specs.declared.Writing.{Writing}
@@ -24,11 +23,10 @@ use Rattle.placement.specs.Placement.{batches}
 use Rattle.transmission.specs.Sending.{sendingsOf, placementOf}
 use Rattle.transmission.specs.Transmission.{wordCount, transmissionOf}
 use Rattle.transmission.specs.Report.{answered, reportOf}
-use Rattle.transmission.specs.declared.Report.{Report}
 use Rattle.transmission.specs.declared.Report.the-variants as report
-use Rattle.transmission.proofs.Sendings.{sendings-count, accepted-sendings, sendings-limits}
+use Rattle.transmission.proofs.Sendings.{accepted-sendings, sendings-limits}
 use Rattle.transmission.proofs.TransmissionLaws.{transmission-length}
-use Rattle.job_listing.specs.Listed.{listingText, writtenInto, listedOf, bytesListed}
+use Rattle.job_listing.specs.Listed.{listingText, writtenInto, listedOf}
 use Rattle.job_listing.specs.declared.Listed.{Listed}
 use Rattle.job_listing.specs.declared.Listed.the-variants.{Written, Declined, NoRoom}
 

@@ -1,6 +1,7 @@
--- Which slot holds what: document 01, "Placement", with the pause after a message (R-3). Slots are numbered from 0 through all batches, without the sync words. Each has a
--- content and a state before it, by recursion on its number. The number of batches is the least with which the transmission can end,
--- looked for up to demand 3's bound; the theorem `Placed` (specs/Promise.antt) says that one is always found.
+-- Which slot holds what: document 01, "Placement", with the pause after a message (R-3). Slots are numbered from 0 through all batches,
+-- without the sync words. Each has a content and a state before it, by recursion on its number. The number of batches is the least with
+-- which the transmission can end, looked for up to demand 3's bound; the theorem `Placed` (specs/Promise.antt) says that one is always
+-- found.
 use mathlib.Core.Path.{_≡_}
 use mathlib.Core.Bool.{Bool, true, false, not, cond, _&&_, _||_}
 use mathlib.Core.List.{List}

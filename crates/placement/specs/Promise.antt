@@ -39,7 +39,7 @@ pub record Placed (job : Job) : Type 0 where
   pub framed : (i : ℕ) → i < job .pages → frameOf (slotOf job i) ≡ job .frame i
   pub inside : (i : ℕ) → i < job .pages → slotOf job i + job .words i < 16 * batches job
   pub behind : (i j : ℕ) → i < job .pages → j < job .words i → contentAt job (slotOf job i + 1 + j) ≡ message i j
-  -- no page with a message starts in the slot directly behind another's
+  -- the pause (R-3): no page with a message starts in the slot directly behind another's message
   pub paused : (i j : ℕ) → i < job .pages → j < job .pages → 0 < job .words i → 0 < job .words j → slotOf job j ≡ slotOf job i + job .words i + 1 → ⊥
   -- and nothing else goes out
   pub only : (s : ℕ) → Holds job s (contentAt job s)

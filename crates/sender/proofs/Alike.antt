@@ -1,11 +1,11 @@
 -- The placement asks of a mark only whether it is 0: two states that agree in that, and in all else, hold the same. Assumes nothing.
 use mathlib.Core.Path.{_≡_, ap, _∙_}
 use Prim.Native.Nat.{ℕ, zero, suc, _-_, _<_}
-use mathlib.Core.Bool.{Bool, cond, _&&_}
+use mathlib.Core.Bool.{cond}
 use mathlib.Core.List.{List}
 use lib.ListN.{getD}
 use lib.Dec.{eqb, ltb}
-use Rattle.placement.specs.Placement.{Job, State, idle, address, message, frameOf, mayStart, ready, first, outOf, out, allOut}
+use Rattle.placement.specs.Placement.{Job, State, idle, address, message, mayStart, ready, first, outOf, out, allOut}
 use Rattle.sender.proofs.Search.{least-same}
 
 abbrev pub Alike : ℕ → List ℕ → List ℕ → Type 0

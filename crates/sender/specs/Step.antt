@@ -55,7 +55,7 @@ jobIn p = record { pages = p .count; frame = λ i. getD (p .frames) i 0; words =
 abbrev pub leftOf : PageTable → Cursor → ℕ
 leftOf p c = cond (isSet (c .running)) (getD (p .lengths) (c .page) 0 - c .word) 0
 
--- the state before the slot: it is in the pause where the last one held a message codeword
+-- the state before the slot, which is a pause where the last one held a message codeword and none is left
 abbrev pub viewOf : PageTable → List ℕ → Cursor → State
 viewOf p sent c = record { sent = sent; page = c .page; left = leftOf p c; pause = isSet (c .message) }
 
