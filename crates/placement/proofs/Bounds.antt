@@ -87,8 +87,8 @@ all-sent job st h = sum-cong _ _ (job .pages) (λ k l. go (getD (st .sent) k 0) 
 abbrev pub nextBy : Job → State → ℕ
 nextBy job st = latest (count job st + 1) (carried job st)
 
--- how many slots a page with w message codewords is held back behind a message of which l codewords are left: one, the pause, unless
--- the page is a tone
+-- how many slots a page with w message codewords is held back beyond the l codewords that are left of a message: one, the pause, while
+-- the message runs and directly behind it; none for a tone
 abbrev hold : ℕ → ℕ → Bool → ℕ
 hold zero l pause = 0
 hold (suc w) (suc l) pause = 1
@@ -101,7 +101,7 @@ hold-le (suc w) (suc l) pause = omega arith
 hold-le (suc w) zero true = omega arith
 hold-le (suc w) zero false = zero-le
 
--- a codeword of the running message brings no more of it
+-- a message codeword that goes out holds no page back longer
 hold-ran : (w l left : ℕ) (pause : Bool) → hold w left true ≤ hold w (suc l) pause
 hold-ran zero l left pause = zero-le
 hold-ran (suc w) l zero pause = omega arith

@@ -16,7 +16,7 @@ pub slot : (job : Job) (s : ℕ) → Turn job s (stateAt job s) (contentAt job s
 unfolding stateAt contentAt
 slot job s = turn job s (stateAt job s)
 
--- the slot after a message codeword is a pause, and no other is, while no message runs
+-- the state's field `pause` says whether the slot before held a message codeword
 pub pause-is : (job : Job) (s : ℕ) → stateAt job (suc s) .pause ≡ isMessage (contentAt job s)
 pause-is job s = go _ _ (slot job s)
   where

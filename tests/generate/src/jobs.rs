@@ -117,7 +117,8 @@ pub fn alphanumeric(random: &mut Random, count: usize, length: usize, frames: &[
 }
 
 /// A job as late as any: the second slot of frame 7 is each message's pause, so that every address and the number of batches are at
-/// the bounds of demand 3. No job takes more than its 289 batches.
+/// the bounds of demand 3. No job takes more than its 289 batches: address, message and pause of a page, 86 slots at most, have at
+/// most 12 slots of any frame, so the k-th address is in slot 14 + 96 (k - 1) at the latest.
 pub fn latest(random: &mut Random) -> Vec<u8> {
     let words = [[80; 47].as_slice(), &[84]].concat();
     words.into_iter().flat_map(|words| page_of_words(random, 7, words)).collect()
