@@ -106,6 +106,13 @@ unfolding tab
 tab-same f g zero h = refl
 tab-same f g (suc n) h = ap₂ _∷_ (h 0 (suc-le-suc zero-le)) (tab-same (λ k. f (suc k)) (λ k. g (suc k)) n (λ i l. h (suc i) (suc-le-suc l)))
 
+-- the front of such a list
+pub tab-take : (f : ℕ → ℕ) (n m : ℕ) → m ≤ n → take m (tab f n) ≡ tab f m
+unfolding tab
+tab-take f n zero h = refl
+tab-take f zero (suc m) h = absurd (not-suc-le-zero h)
+tab-take f (suc n) (suc m) h = ap (λ (t : List ℕ). f 0 ∷ t) (tab-take (λ k. f (suc k)) n m (le-of-suc-le-suc h))
+
 pub map-tab {ℓ κ} : {A : Type ℓ} {B : Type κ} (g : A → B) (f : ℕ → A) (n : ℕ) → map g (tab f n) ≡ tab (λ i. g (f i)) n
 unfolding tab
 map-tab g f zero = refl
