@@ -9,27 +9,27 @@ use borrow.Author.Tests.{ne-eqb}
 use lib.ListN.{length, getD, take, drop, length-take}
 use lib.Seq.{length-take-le}
 use Rattle.base.specs.Leading.{leading}
-use Rattle.base.specs.Lists.{tab}
+use Rattle.base.specs.Lists.{tab, Begins}
 use Rattle.base.proofs.LeadingLaws.{leading-more, leading-stop, leading-end, leading-le}
 use Rattle.base.proofs.ListLaws.{tab-length, tab-at}
 use Rattle.text.specs.Heard.{charHeard, wholeIn, charsIn, ahead, trimmed, ends, goesOn, heardText}
 use Rattle.text.specs.declared.Coding.{Coding}
 use Rattle.text.specs.declared.Coding.the-variants.{Numeric, Alphanumeric}
 
-ahead-front : (b : ℕ) (s t : List ℕ) → t ≡ take (length t) s → ahead b t ≡ take (length (ahead b t)) (b ∷ s)
+ahead-front : (b : ℕ) (s t : List ℕ) → Begins t s → Begins (ahead b t) (b ∷ s)
 ahead-front b s [] e = go (eqb b 32)
   where
-    go : (x : Bool) → cond x [] (b ∷ []) ≡ take (length (cond x [] (b ∷ []))) (b ∷ s)
+    go : (x : Bool) → Begins (cond x [] (b ∷ [])) (b ∷ s)
     go true = refl
     go false = refl
 ahead-front b s (x ∷ t) e = ap (λ (l : List ℕ). b ∷ l) e
 
-trim-front : (s : List ℕ) → trimmed s ≡ take (length (trimmed s)) s
+trim-front : (s : List ℕ) → Begins (trimmed s) s
 unfolding trimmed
 trim-front [] = refl
 trim-front (b ∷ s) = ahead-front b s (trimmed s) (trim-front s)
 
-pub heard-front : (c : Coding) (gs : List ℕ) → heardText c gs ≡ take (length (heardText c gs)) (charsIn c gs)
+pub heard-front : (c : Coding) (gs : List ℕ) → Begins (heardText c gs) (charsIn c gs)
 unfolding heardText
 heard-front Numeric gs = trim-front (charsIn Numeric gs)
 heard-front Alphanumeric gs =

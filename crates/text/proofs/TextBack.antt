@@ -34,7 +34,7 @@ bit-back c bytes n p h =
     ∙ group-bit c bytes (p / 20) (p % 20) (omega arith)
     ∙ ap (bitOf c bytes) e
 
-inside : (c : Coding) (n i : ℕ) → i < wholeIn c n → widthOf c * i + widthOf c ≤ 20 * n
+pub inside : (c : Coding) (n i : ℕ) → i < wholeIn c n → widthOf c * i + widthOf c ≤ 20 * n
 inside Numeric n i h = omega arith
 inside Alphanumeric n i h = omega arith
 

@@ -3,4 +3,5 @@ pub mod Coding
 pub mod Packing
 pub mod Heard
 pub mod Back
+pub mod Front
 pub mod Window
