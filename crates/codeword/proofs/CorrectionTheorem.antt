@@ -10,6 +10,7 @@ use Rattle.codeword.specs.Nearest.{nearest}
 use Rattle.codeword.proofs.CodeLaws.{codeword-obeying, sync-obeying, idle-obeying}
 use Rattle.codeword.proofs.Linear.{remainder-xor}
 use Rattle.codeword.proofs.NearestLaws.{nearest-is, nearest-near, nearest-none, none-near}
+use Rattle.codeword.proofs.ThreeFlips.{three-far}
 use Rattle.codeword.proofs.Unique.{unique}
 
 -- number 20 says that there is no corrected word
@@ -32,4 +33,5 @@ correction-theorem =
       refuses = nearest-none;
       refusal = λ w h f. (ap (λ (o : Option ℕ). numberOf (answer o)) (nearest-none w h f), refl);
       refusal-far = λ w h e. none-near w h (number-none (nearest w) e);
+      three-far = λ w c h o e. three-far w c h o (omega arith);
     }

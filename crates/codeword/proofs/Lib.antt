@@ -3,6 +3,7 @@ pub mod Linear
 pub mod CodeLaws
 pub mod Tests
 pub mod Unique
+pub mod ThreeFlips
 pub mod NearestLaws
 pub mod AnswerLaws
 pub mod Maps

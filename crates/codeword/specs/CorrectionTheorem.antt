@@ -40,3 +40,5 @@ pub record CorrectionTheorem : Type 0 where
   pub refuses : (w : ℕ) → w < 2 ^ 32 → Far w → nearest w ≡ none
   pub refusal : (w : ℕ) → w < 2 ^ 32 → Far w → (numberOf (answer (nearest w)) ≡ 20) × (placeOf (answer (nearest w)) ≡ 0)
   pub refusal-far : (w : ℕ) → w < 2 ^ 32 → numberOf (answer (nearest w)) ≡ 20 → Far w
+  -- three flips of a codeword are always refused: a word three bits away from one is at most two bits away from none
+  pub three-far : (w c : ℕ) → w < 2 ^ 32 → Obeying c → distance w c ≡ 3 → Far w
