@@ -2,90 +2,53 @@
 use mathlib.Core.Path.{_≡_, refl, sym, ap, _∙_}
 use mathlib.Core.Bool.{cond}
 use mathlib.Core.List.{List, _++_, map}
-use mathlib.Core.Logic.{⊎-elim}
 use Prim.Native.Nat.{ℕ, _+_, _*_, _≤_, _<_}
 use native.Mathlib.Omega.{arith}
 use lib.ListN.{length, getD, take, drop, replicate, List·getD-append}
 use lib.Seq.{take-at}
 use lib.Dec.{eqb, ltb}
-use borrow.Author.Tests.{le-leb, lt-leb, ne-eqb, eq-eqb}
 use Rattle.base.specs.Lists.{over}
 use Rattle.base.specs.Search.{sum}
 use Rattle.base.proofs.ListLaws.{over-length}
-use Rattle.base.proofs.SearchLaws.{le-or-lt, sum-cong}
+use Rattle.base.proofs.SearchLaws.{sum-cong}
 use Rattle.codeword.specs.Code as code
-use Rattle.text.specs.Coding.{groupsOf}
-use Rattle.text.proofs.GroupLaws.{groups-length}
-use Rattle.job.specs.Line.{codingOf}
-use Rattle.job.specs.Pages.{pageAt}
 use Rattle.job.specs.Job.{jobOf}
 use Rattle.job.specs.declared.JobAnswer.the-variants.{Accepted}
-use Rattle.job.proofs.Accepted.{accepted-job}
 use Rattle.placement.specs.Placement.{Job, contentAt, slotOf, slots}
 use Rattle.placement.specs.Promise.{Placed, before}
 use Rattle.placement.proofs.Placed.{slots-length, slots-at}
-use Rattle.transmission.specs.Sending.{Sending, sendingsOf, placementOf, AllAllowed}
+use Rattle.transmission.specs.Sending.{Sending, sendingsOf, placementOf}
 use Rattle.transmission.specs.Transmission.{Codewords, codewordsOf, addressOf, messageOf, wordAt, transmissionOf}
 use Rattle.transmission.specs.Transmitted.{slotIndex, slotWord, isAddress, Transmitted}
 use Rattle.transmission.specs.declared.Report.the-variants.{Sent}
-use Rattle.transmission.proofs.Sendings.{sending-at, words-at, pages-are, sendings-placed, sendings-count, accepted-sendings}
+use Rattle.transmission.proofs.Sendings.{sending-at, words-at, sendings-placed, sendings-count}
 use Rattle.transmission.proofs.TransmissionLaws.{transmission-length, transmission-at}
 use Rattle.transmission.proofs.Transmitted.{transmitted}
 use Rattle.sender.specs.declared.Answer.the-variants.{Word, Done}
 use Rattle.sender.proofs.Stepping.{job-stepping}
-use Rattle.guarantees.specs.Demand3.{Call, page, messageCount, count, slot, wordIn, earlier, InTime, AsPlaced, InWords, Carried}
+use Rattle.guarantees.specs.Demand3.{Call, page, count, slot, wordIn, earlier, InTime, AsPlaced, InWords, Carried}
+use Rattle.guarantees.proofs.AcceptedJob.{allowed, page-count, groups-count}
 use Rattle.guarantees.proofs.Reported.{Reported, reported}
 
 -- what is written over the front of a slice that has room for it stands in the slice
 front-fits : (old new : List ℕ) {n : ℕ} → length new ≡ n → n ≤ length old → n ≤ length (over old new)
 front-fits old new e h = omega (arith, over-length old new (omega arith))
 
--- ---- how many message codewords a page has
-
--- the groups of a text are as many as document 01 says, where a tone has none
-count-of : (kind c : ℕ) → kind ≤ 5 → (kind ≤ 3 → c ≡ 0) → groupsOf (codingOf kind) c ≡ messageCount kind c
-unfolding messageCount codingOf
-count-of kind c most tone = ⊎-elim none some (le-or-lt kind 3)
-  where
-    none : kind ≤ 3 → groupsOf (codingOf kind) c ≡ messageCount kind c
-    none h = rw (le-leb kind 3 h, ne-eqb kind 4 (λ e. omega arith), tone h)
-
-    some : 3 < kind → groupsOf (codingOf kind) c ≡ messageCount kind c
-    some h =
-        ⊎-elim
-        (λ l. rw (lt-leb kind 3 h, eq-eqb kind 4 (omega arith)) (omega arith))
-        (λ l. rw (lt-leb kind 3 h, ne-eqb kind 4 (λ e. omega arith)) (omega arith))
-        (le-or-lt kind 4)
-
 module _ (s : List ℕ) (n : ℕ) (ok : jobOf s ≡ Accepted n) where
-  groups-count : (i : ℕ) → i < n → length (page s i .groups) ≡ count s i
-  groups-count i l =
-      let a = accepted-job s n ok in
-      let p = a .page i l in
-      let q = a .sound i l in
-      groups-length (codingOf (pageAt s i .kind)) (pageAt s i .text)
-      ∙ count-of (pageAt s i .kind) (length (pageAt s i .text)) (rw (p .kind-is) (q .known)) (rw (p .kind-is, p .text-is) (q .tone))
-
   abbrev job : Job
   job = placementOf (sendingsOf s)
 
   abbrev codewords : Codewords
   codewords = codewordsOf (sendingsOf s)
 
-  allowed : AllAllowed (sendingsOf s)
-  allowed = accepted-sendings s n ok
-
-  page-count : job .pages ≡ n
-  page-count = pages-are (sendingsOf s) ∙ sendings-count s n ok
-
   word-count : (i : ℕ) → i < n → job .words i ≡ count s i
-  word-count i l = words-at (sendingsOf s) i ∙ ap (λ (x : Sending). length (x .groups)) (sending-at s i) ∙ groups-count i l
+  word-count i l = words-at (sendingsOf s) i ∙ ap (λ (x : Sending). length (x .groups)) (sending-at s i) ∙ groups-count s n ok i l
 
   placed : Placed job
-  placed = sendings-placed allowed
+  placed = sendings-placed (allowed s n ok)
 
   all-codewords : sum (job .words) (job .pages) ≡ sum (count s) n
-  all-codewords = rw page-count (sum-cong (job .words) (count s) n word-count)
+  all-codewords = rw (page-count s n ok) (sum-cong (job .words) (count s) n word-count)
 
   module _ (w₀ t₀ w t : List ℕ) (b m : ℕ) (call : Call s w₀ t₀ (Sent b m) w t) where
     says : Reported (jobOf s) (sendingsOf s) (length w₀) (length t₀) b m
@@ -95,7 +58,7 @@ module _ (s : List ℕ) (n : ℕ) (ok : jobOf s ≡ Accepted n) where
     words-size = transmission-length codewords job ∙ sym (says .words-are)
 
     slots-size : length (slots job) ≡ n
-    slots-size = slots-length job ∙ page-count
+    slots-size = slots-length job ∙ page-count s n ok
 
     word-at : (k : ℕ) → k < m → getD w k 0 ≡ wordAt codewords job k
     word-at k l =
@@ -107,7 +70,7 @@ module _ (s : List ℕ) (n : ℕ) (ok : jobOf s ≡ Accepted n) where
     slot-at i l =
         ap (λ (x : List ℕ). getD x i 0) (call .slots)
         ∙ List·getD-append (slots job) (drop (length (slots job)) t₀) 0 i (omega (arith, slots-size))
-        ∙ slots-at job i (omega (arith, page-count))
+        ∙ slots-at job i (omega (arith, page-count s n ok))
 
     word-in : (p : ℕ) → p < 16 * b → wordIn w p ≡ slotWord codewords job p
     word-in p l = word-at (slotIndex p) (omega (arith, says .words-are, says .batches-are))
@@ -116,7 +79,7 @@ module _ (s : List ℕ) (n : ℕ) (ok : jobOf s ≡ Accepted n) where
     unfolding earlier before
     earlier-is f g e i l =
         sum-cong _ _ n (λ j h. rw (slot-at j h, slot-at i l, e j h))
-        ∙ ap (sum (λ j. cond (ltb (slotOf job j) (slotOf job i)) (g j) 0)) (sym page-count)
+        ∙ ap (sum (λ j. cond (ltb (slotOf job j) (slotOf job i)) (g j) 0)) (sym (page-count s n ok))
 
     before-ones : (i : ℕ) → i < n → earlier t n (λ _. 1) i ≡ before job (λ _. 1) i
     before-ones i l = earlier-is (λ _. 1) (λ _. 1) (λ _ _. refl) i l
@@ -125,7 +88,7 @@ module _ (s : List ℕ) (n : ℕ) (ok : jobOf s ≡ Accepted n) where
     before-counts i l = earlier-is (count s) (job .words) (λ j h. sym (word-count j h)) i l
 
     in-pages : {i : ℕ} → i < n → i < job .pages
-    in-pages l = omega (arith, page-count)
+    in-pages l = omega (arith, page-count s n ok)
 
     inside : (i : ℕ) → i < n → slot t i + count s i < 16 * b
     inside i l = omega (arith, slot-at i l, word-count i l, placed .inside i (in-pages l), says .batches-are)
@@ -162,15 +125,15 @@ module _ (s : List ℕ) (n : ℕ) (ok : jobOf s ≡ Accepted n) where
     in-time =
         record {
           some = λ k h l.
-              let x = placed .some k h (omega (arith, page-count)) in
-              let lx : x .0 < n = omega (arith, x .1, page-count) in
+              let x = placed .some k h (omega (arith, page-count s n ok)) in
+              let lx : x .0 < n = omega (arith, x .1, page-count s n ok) in
               (x .0, lx, ap (λ (y : ℕ). y + 1) (before-ones (x .0) lx) ∙ x .2);
           one = λ k i j li lj e f.
               placed .one k i j (in-pages li) (in-pages lj) (omega (arith, before-ones i li)) (omega (arith, before-ones j lj));
           in-time = λ k i l e.
               omega (arith, slot-at i l, before-counts i l, placed .kth k i (in-pages l) (omega (arith, before-ones i l)));
           few = omega (arith, says .batches-are, placed .few);
-          pages = page-count;
+          pages = page-count s n ok;
           codewords = all-codewords;
         }
 
@@ -191,17 +154,17 @@ module _ (s : List ℕ) (n : ℕ) (ok : jobOf s ≡ Accepted n) where
         record {
           reported = λ p l e.
               let x = sent .reported p (rw (← word-in p l) e) in
-              let lx : x .0 < n = omega (arith, x .1, page-count) in
+              let lx : x .0 < n = omega (arith, x .1, page-count s n ok) in
               (x .0, lx, x .2 ∙ sym (slot-at (x .0) lx));
           addressed = λ i l. ap isAddress (first-word i l) ∙ sent .itsAddress i (in-pages l) .1;
           its-address = λ i l. first-word i l ∙ sent .itsAddress i (in-pages l) .0 ∙ ap addressOf (sending-at s i);
-          counted = groups-count;
+          counted = groups-count s n ok;
           its-message = messages-behind;
           inside = inside;
           others = λ p l free.
               word-in p l
               ∙ sent .others p (λ i j h k e.
-              let h′ : i < n = omega (arith, page-count) in
+              let h′ : i < n = omega (arith, page-count s n ok) in
               free i j h′ (omega (arith, word-count i h′)) (omega (arith, slot-at i h′)));
           syncs = sync-count;
         }

@@ -24,7 +24,10 @@ use Rattle.text.specs.declared.Coding.the-variants.{Numeric, Alphanumeric}
 use Rattle.text.proofs.GroupLaws.{groups-length}
 use Rattle.text.proofs.TextBack.{text-back}
 use Rattle.job.specs.Line.{allHex, isPairs, headFormed, tailFormed, wellFormed, codingOf, functionOf, identityOf, kindOf, textPairs, textOf}
+use Rattle.job.specs.Pages.{pageAt}
 use Rattle.job.specs.Print.{printed}
+use Rattle.job.specs.Job.{jobOf}
+use Rattle.job.specs.declared.JobAnswer.the-variants.{Accepted}
 use Rattle.job.specs.Accepted.{Sound}
 use Rattle.job.proofs.Accepted.{accepted-job}
 use Rattle.job.proofs.Printed.{line-printed}
@@ -55,81 +58,108 @@ text-pairs l e =
     let d : drop 1 (drop 8 l) ≡ drop 9 l = drop-drop 1 8 l in
     rw (← d) (tail-pairs (drop 8 l) (and-true (headFormed l) (tailFormed (drop 8 l)) e .1))
 
--- ---- the kind and the digits that are heard are those that were sent
+-- ---- the kind and the digits that are heard of groups, by the kind that was sent
 
-record Shown (kind : ℕ) (bytes : List ℕ) : Type 0 where
-  kind-is : kindHeard (functionOf kind) (groupsIn (codingOf kind) bytes) ≡ kind
-  digits-are : digitsHeard (functionOf kind) (groupsIn (codingOf kind) bytes) ≡ pairsOf bytes
+-- groups of a page of this kind: with any the kind is the page's, with none it is the function's tone
+pub record Shown (kind : ℕ) (gs : List ℕ) : Type 0 where
+  pub tone-is : length gs ≡ 0 → kindHeard (functionOf kind) gs ≡ functionOf kind
+  pub kind-is : 0 < length gs → kindHeard (functionOf kind) gs ≡ kind
+  pub digits-are : digitsHeard (functionOf kind) gs ≡ pairsOf (heardText (codingOf kind) gs)
+
+tone-kind : (f : ℕ) (gs : List ℕ) → length gs ≡ 0 → kindHeard f gs ≡ f
+tone-kind f [] e = refl
+tone-kind f (g ∷ gs) e = absurd (omega arith)
+
+text-kind : (f : ℕ) (gs : List ℕ) → 0 < length gs → kindHeard f gs ≡ cond (eqb f 0) 4 (cond (eqb f 3) 5 (f + 5))
+text-kind f [] h = absurd (omega arith)
+text-kind f (g ∷ gs) h = refl
 
 -- a tone
-no-groups : (c : Coding) → groupsIn c [] ≡ []
-unfolding groupsIn tab
-no-groups Numeric = refl
-no-groups Alphanumeric = refl
+no-text : (c : Coding) → heardText c [] ≡ []
+unfolding heardText trimmed tab
+no-text Numeric = refl
+no-text Alphanumeric = refl
 
 no-digits : (f : ℕ) → digitsHeard f [] ≡ []
-unfolding fives heardText trimmed tab pairsOf
-no-digits f = go (eqb f 0) (eqb f 3)
+unfolding fives pairsOf
+no-digits f = rw (no-text Numeric, no-text Alphanumeric) (go (eqb f 0) (eqb f 3))
   where
-    go : (t u : Bool) → cond t (pairsOf (heardText Numeric [])) (cond u (pairsOf (heardText Alphanumeric [])) (fives [])) ≡ []
+    go : (t u : Bool) → cond {A = List ℕ} t [] (cond u [] []) ≡ []
     go true u = refl
     go false true = refl
     go false false = refl
+
+shown-tone : (kind : ℕ) (gs : List ℕ) → length gs ≡ 0 → Shown kind gs
+unfolding pairsOf
+shown-tone kind [] e =
+    record { tone-is = λ _. refl; kind-is = λ h. absurd (omega arith); digits-are = rw (no-text (codingOf kind)) (no-digits (functionOf kind)) }
+shown-tone kind (g ∷ gs) e = absurd (omega arith)
+
+shown-numeric : (gs : List ℕ) → Shown 4 gs
+unfolding functionOf codingOf
+shown-numeric gs = record { tone-is = tone-kind 0 gs; kind-is = text-kind 0 gs; digits-are = refl }
+
+shown-alphanumeric : (gs : List ℕ) → Shown 5 gs
+unfolding functionOf codingOf
+shown-alphanumeric gs = record { tone-is = tone-kind 3 gs; kind-is = text-kind 3 gs; digits-are = refl }
+
+pub shown : (kind : ℕ) (gs : List ℕ) → kind ≤ 5 → (kind ≤ 3 → length gs ≡ 0) → Shown kind gs
+shown kind gs most tone =
+    ⊎-elim
+    (λ h. shown-tone kind gs (tone h))
+    (λ h. ⊎-elim
+    (λ (e : 4 ≡ kind). rw (← e) (shown-numeric gs))
+    (λ l. let e : 5 ≡ kind = omega arith in rw (← e) (shown-alphanumeric gs))
+    (eq-or-lt-of-le h))
+    (le-or-lt kind 3)
+
+-- ---- the groups of a page's text
 
 tone-function : (kind : ℕ) → kind ≤ 3 → functionOf kind ≡ kind
 unfolding functionOf
 tone-function kind h = rw (ne-eqb kind 4 (λ e. omega arith), ne-eqb kind 5 (λ e. omega arith))
 
-shown-tone : (kind : ℕ) (bytes : List ℕ) → kind ≤ 3 → length bytes ≡ 0 → Shown kind bytes
-unfolding pairsOf
-shown-tone kind [] h e =
-    record {
-      kind-is = rw (no-groups (codingOf kind)) (tone-function kind h);
-      digits-are = rw (no-groups (codingOf kind)) (no-digits (functionOf kind));
-    }
-shown-tone kind (b ∷ bytes) h e = absurd (omega arith)
-
--- a text
-text-kind : (f : ℕ) (gs : List ℕ) → 0 < length gs → kindHeard f gs ≡ cond (eqb f 0) 4 (cond (eqb f 3) 5 (f + 5))
-text-kind f [] h = absurd (omega arith)
-text-kind f (g ∷ gs) h = refl
+no-groups : (c : Coding) (bytes : List ℕ) → length bytes ≡ 0 → length (groupsIn c bytes) ≡ 0
+no-groups Numeric bytes e = omega (arith, groups-length Numeric bytes)
+no-groups Alphanumeric bytes e = omega (arith, groups-length Alphanumeric bytes)
 
 some-groups : (c : Coding) (bytes : List ℕ) → 1 ≤ length bytes → 0 < length (groupsIn c bytes)
 some-groups Numeric bytes h = omega (arith, groups-length Numeric bytes)
 some-groups Alphanumeric bytes h = omega (arith, groups-length Alphanumeric bytes)
 
-shown-numeric : (bytes : List ℕ) → 1 ≤ length bytes → heardText Numeric (groupsIn Numeric bytes) ≡ bytes → Shown 4 bytes
-unfolding functionOf codingOf
-shown-numeric bytes h t =
-    record { kind-is = text-kind 0 (groupsIn Numeric bytes) (some-groups Numeric bytes h); digits-are = ap pairsOf t }
+-- what is known of a page by its sound line: a tone has no groups, and the text is heard from the groups
+pub record Texted (kind : ℕ) (bytes : List ℕ) : Type 0 where
+  pub known : kind ≤ 5
+  pub tone : kind ≤ 3 → length (groupsIn (codingOf kind) bytes) ≡ 0
+  pub back : heardText (codingOf kind) (groupsIn (codingOf kind) bytes) ≡ bytes
 
-shown-alphanumeric : (bytes : List ℕ) → 1 ≤ length bytes → heardText Alphanumeric (groupsIn Alphanumeric bytes) ≡ bytes → Shown 5 bytes
-unfolding functionOf codingOf
-shown-alphanumeric bytes h t =
-    record { kind-is = text-kind 3 (groupsIn Alphanumeric bytes) (some-groups Alphanumeric bytes h); digits-are = ap pairsOf t }
+texted : (l : List ℕ) → Sound l → Texted (kindOf l) (textOf l)
+texted l s =
+    record {
+      known = s .known;
+      tone = λ h. no-groups (codingOf (kindOf l)) (textOf l) (s .tone h);
+      back = text-back (codingOf (kindOf l)) (textOf l) (s .chars) (s .unspaced);
+    }
 
-shown-text : (kind : ℕ) (bytes : List ℕ) → 4 ≤ kind → kind ≤ 5 → 1 ≤ length bytes
-    → heardText (codingOf kind) (groupsIn (codingOf kind) bytes) ≡ bytes → Shown kind bytes
-unfolding codingOf
-shown-text kind bytes l h s t =
-    ⊎-elim
-    (λ (e : 4 ≡ kind). rw (← e) (shown-numeric bytes s (rw (← e) at t)))
-    (λ m. let e : 5 ≡ kind = omega arith in rw (← e) (shown-alphanumeric bytes s (rw (← e) at t)))
-    (eq-or-lt-of-le l)
-
-shown : (l : List ℕ) → Sound l → Shown (kindOf l) (textOf l)
-shown l s =
-    ⊎-elim
-    (λ h. shown-tone (kindOf l) (textOf l) h (s .tone h))
-    (λ h. shown-text (kindOf l) (textOf l) h (s .known) (s .some h) (text-back (codingOf (kindOf l)) (textOf l) (s .chars) (s .unspaced)))
-    (le-or-lt (kindOf l) 3)
+pub page-texted : (s : List ℕ) (n : ℕ) → jobOf s ≡ Accepted n → (p : ℕ) → p < n → Texted (pageAt s p .kind) (pageAt s p .text)
+page-texted s n ok p h =
+    let a = accepted-job s n ok in
+    let r = a .page p h in
+    rw (r .kind-is, r .text-is) (texted (lineAt p (split s)) (a .sound p h))
 
 -- ---- the line
 
 line-heard : (l : List ℕ) → Sound l → lineHeard (hearingOf (sendingFrom (identityOf l) (kindOf l) (textOf l))) ≡ l ++ (10 ∷ [])
 line-heard l s =
-    let h = shown l s in
-    ap₂ (λ (k : ℕ) (ds : List ℕ). printed (identityOf l) k ds false) (h .kind-is) (h .digits-are ∙ text-pairs l (s .formed))
+    let gs = groupsIn (codingOf (kindOf l)) (textOf l) in
+    let t = texted l s in
+    let h = shown (kindOf l) gs (t .known) (t .tone) in
+    let kind : kindHeard (functionOf (kindOf l)) gs ≡ kindOf l =
+    ⊎-elim
+    (λ e. h .tone-is (t .tone e) ∙ tone-function (kindOf l) e)
+    (λ e. h .kind-is (some-groups (codingOf (kindOf l)) (textOf l) (s .some e)))
+    (le-or-lt (kindOf l) 3) in
+    ap₂ (λ (k : ℕ) (ds : List ℕ). printed (identityOf l) k ds false) kind (h .digits-are ∙ ap pairsOf (t .back) ∙ text-pairs l (s .formed))
     ∙ line-printed l s
 
 pub line-back : LineBack

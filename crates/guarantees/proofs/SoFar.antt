@@ -1,87 +1,47 @@
--- Reading along the placement's slots: one invariant of the placement's state and the reader's. Assumes nothing.
+-- Reading along the placement's slots, some of whose words are lost: one invariant of the placement's state and the reader's.
+-- Assumes nothing.
 use mathlib.Core.Path.{_≡_, refl, sym, ap, _∙_}
-use mathlib.Core.Bool.{false}
-use mathlib.Core.List.{List, [], _∷_, _++_, map, map-append}
-use mathlib.Core.Option.{none, some}
+use mathlib.Core.Bool.{Bool, true, false, cond}
+use mathlib.Core.List.{List, [], _∷_, _++_}
+use mathlib.Core.Logic.{⊎-elim}
+use mathlib.Core.Option.{Option, none, some}
 use Prim.Native.Nat.{ℕ, suc, _+_, _*_, _-_, _/_, _≤_, _<_}
 use native.Mathlib.Omega.{arith}
-use lib.ListN as list
 use lib.ListN.{length, getD}
-use lib.Seq.{take-suc, take-all}
+use borrow.Author.Tests.{lt-ltb, ltb-true}
+use Rattle.base.proofs.Bools.{either, true-false}
 use Rattle.placement.specs.Placement as placement
-use Rattle.placement.specs.Placement.{Content, frameOf}
+use Rattle.placement.specs.Placement.{Content, idle, address, message, frameOf, slotOf}
 use Rattle.placement.proofs.Turn.{Turn, runs, starts, rests, ready-true}
 use Rattle.transmission.specs.Sending.{Sending, sendingAt, placementOf}
 use Rattle.transmission.proofs.Sendings.{frame-at, words-at}
-use Rattle.reader.specs.Reading.{Hearing, State, opened, extended, close, take, hear, ended}
+use Rattle.reader.specs.Reading.{Hearing, State, opened, close, take, hear}
+use Rattle.reader.specs.declared.Meaning.{Meaning}
+use Rattle.reader.specs.declared.Meaning.the-variants.{Lost}
 use Rattle.guarantees.specs.Order.{withAddress}
-use Rattle.guarantees.specs.Transport.{hearingOf}
+use Rattle.guarantees.specs.Transport.{readBehind, spoilt, orphaned}
 use Rattle.guarantees.proofs.Words.{meaningIn}
+use Rattle.guarantees.proofs.OpenPage.{partly, heardOf, Going, going-from, going-on, read-cut, not-spoilt, heard-closed, heard-skip, partly-more}
 
--- page i as it is heard after its first k groups
-abbrev pub partly : List Sending → ℕ → ℕ → Hearing
-partly xs i k =
-    record {
-      identity = sendingAt xs i .identity;
-      function = sendingAt xs i .function;
-      groups = list.take k (sendingAt xs i .groups);
-      cut = false;
-    }
+-- what the word of a slot says that holds c: that it is lost, or what was sent
+abbrev pub saidIn : Bool → List Sending → Content → Meaning
+saidIn b xs c = cond b Lost (meaningIn xs c)
 
--- pages heard as they were sent
-abbrev pub whole : List Sending → List ℕ → List Hearing
-whole xs o = map (λ i. hearingOf (sendingAt xs i)) o
+-- The placement's state before slot s, the pages whose address has gone out, and what has been read. No page is open, and the message
+-- that runs, if any, is that of a page of which a word is lost; or the last page that went out is open, with the groups that have gone out.
+pub data SoFar (lost : ℕ → Bool) (xs : List Sending) (s : ℕ) (st : placement.State) (o : List ℕ) (r : State) : Type 0 where
+  closed : (0 < st .left → spoilt lost xs (st .page) (placementOf xs .words (st .page) - st .left) ≡ true)
+      → r .held ≡ none → r .pages ≡ heardOf lost xs o → SoFar lost xs s st o r
+  going : (p : List ℕ) → o ≡ p ++ (st .page ∷ []) → (k : ℕ) → k + st .left ≡ length (sendingAt xs (st .page) .groups) → Going lost xs (st .page) k s
+      → r .held ≡ some (partly xs (st .page) k) → r .pages ≡ heardOf lost xs p → SoFar lost xs s st o r
 
--- nothing is open, or a page is; nothing was lost
-abbrev pub quiet : List Sending → List ℕ → State
-quiet xs o = record { pages = whole xs o; held = none; lost = 0; orphans = 0 }
-
-abbrev pub busy : List Sending → List ℕ → Hearing → State
-busy xs o h = record { pages = whole xs o; held = some h; lost = 0; orphans = 0 }
-
--- The placement's state, the pages whose address has gone out, and what has been read. No page is open, all that went out is heard
--- as it was sent and no message runs; or the last that went out is open, with the groups that have gone out.
-pub data SoFar (xs : List Sending) (st : placement.State) (o : List ℕ) (r : State) : Type 0 where
-  closed : st .left ≡ 0 → r ≡ quiet xs o → SoFar xs st o r
-  going : (p : List ℕ) → o ≡ p ++ (st .page ∷ []) → st .left ≤ placementOf xs .words (st .page)
-      → r ≡ busy xs p (partly xs (st .page) (placementOf xs .words (st .page) - st .left)) → SoFar xs st o r
-
-module _ (xs : List Sending) where
-  partly-more : (i k : ℕ) → k < length (sendingAt xs i .groups) → extended (partly xs i k) (getD (sendingAt xs i .groups) k 0) ≡ partly xs i (suc k)
-  partly-more i k h =
-      ap (λ (g : List ℕ). record { identity = sendingAt xs i .identity; function = sendingAt xs i .function; groups = g; cut = false })
-      (sym (take-suc (sendingAt xs i .groups) k 0 h))
-
-  partly-all : (i k : ℕ) → length (sendingAt xs i .groups) ≤ k → partly xs i k ≡ hearingOf (sendingAt xs i)
-  partly-all i k h =
-      ap (λ (g : List ℕ). record { identity = sendingAt xs i .identity; function = sendingAt xs i .function; groups = g; cut = false })
-      (take-all k (sendingAt xs i .groups) h)
-
-  -- one more page heard as it was sent
-  whole-more : (p : List ℕ) (i : ℕ) → whole xs p ++ (hearingOf (sendingAt xs i) ∷ []) ≡ whole xs (p ++ (i ∷ []))
-  whole-more p i = sym (map-append (λ i. hearingOf (sendingAt xs i)) p (i ∷ []))
-
-  -- where no message runs, closing gives all that went out
-  module _ (st : placement.State) (o : List ℕ) (r : State) (z : st .left ≡ 0) where
-    all-closed : SoFar xs st o r → close false (r .pages) (r .held) ≡ whole xs o
-    unfolding close
-    all-closed (closed _ e) = rw e
-    all-closed (going p q h e) =
-        let k = placementOf xs .words (st .page) - st .left in
-        let n : length (sendingAt xs (st .page) .groups) ≤ k = omega (arith, words-at xs (st .page)) in
-        rw (e, q) (ap (λ (x : Hearing). whole xs p ++ (x ∷ [])) (partly-all (st .page) k n) ∙ whole-more p (st .page))
-
-    none-lost : SoFar xs st o r → r .lost ≡ 0
-    none-lost (closed _ e) = rw e
-    none-lost (going p q h e) = rw e
-
-    no-orphans : SoFar xs st o r → r .orphans ≡ 0
-    no-orphans (closed _ e) = rw e
-    no-orphans (going p q h e) = rw e
-
-    -- the end
-    pub all-heard : SoFar xs st o r → ended r ≡ record { pages = whole xs o; lost = 0; orphans = 0 }
-    all-heard so = rw (all-closed so, none-lost so, no-orphans so)
+module _ (lost : ℕ → Bool) (xs : List Sending) where
+  -- where no message runs, closing gives all that went out: with slot s lost, or not
+  pub all-closed : (s : ℕ) (b : Bool) (st : placement.State) (o : List ℕ) (r : State) → lost s ≡ b → st .left ≡ 0 → SoFar lost xs s st o r
+      → close b (r .pages) (r .held) ≡ heardOf lost xs o
+  unfolding close
+  all-closed s b st o r e z (closed sp h q) = rw (h, q)
+  all-closed s b st o r e z (going p u k t g h q) = rw (h, q, u) (heard-closed lost xs (st .page) k s g p b e (λ _. omega arith))
 
   -- a page opens in a slot of its frame
   starts-as : (s i : ℕ) → placementOf xs .frame i ≡ frameOf s
@@ -90,22 +50,62 @@ module _ (xs : List Sending) where
       let id : sendingAt xs i .identity / 8 * 8 + frameOf s ≡ sendingAt xs i .identity = omega (arith, frame-at xs i) in
       ap (λ (x : ℕ). record { identity = x; function = sendingAt xs i .function; groups = []; cut = false }) id
 
-  -- one slot
-  pub turned : (s : ℕ) (st st′ : placement.State) (c : Content) (o : List ℕ) (r : State)
-      → Turn (placementOf xs) s st c st′ → SoFar xs st o r → SoFar xs st′ (withAddress o c) (hear s r (meaningIn xs c))
+  -- what stands behind a lost word stands behind it further on too
+  spoilt-on : (i j k : ℕ) → j ≤ k → spoilt lost xs i j ≡ true → spoilt lost xs i k ≡ true
+  spoilt-on i j k h e =
+      let r = readBehind lost xs i in
+      ⊎-elim (λ a. rw a) (λ a. rw a (lt-ltb r k (omega (arith, ltb-true r j (rw a at e))))) (either (lost (slotOf (placementOf xs) i)))
+
+  -- one slot, lost or not
+  pub turned : (s : ℕ) (b : Bool) (st st′ : placement.State) (c : Content) (o : List ℕ) (r : State) → lost s ≡ b
+      → ((i : ℕ) → c ≡ address i → s ≡ slotOf (placementOf xs) i) → Turn (placementOf xs) s st c st′ → SoFar lost xs s st o r
+      → SoFar lost xs (suc s) st′ (withAddress o c) (hear s r (saidIn b xs c))
+  unfolding hear take close
+  turned s true st st′ c o r e at (runs l z) (closed sp h q) =
+      closed (λ m. spoilt-on (st .page) _ _ (omega arith) (sp (omega arith))) refl (rw h q)
+  turned s false st st′ c o r e at (runs l z) (closed sp h q) =
+      closed (λ m. spoilt-on (st .page) _ _ (omega arith) (sp (omega arith))) (rw h) (rw h q)
+  turned s true st st′ c o r e at (runs l z) (going p u k t g h q) =
+      closed (λ m. rw (g .begun, read-cut lost xs (st .page) k s g e) (lt-ltb k _ (omega (arith, words-at xs (st .page))))) refl
+      (rw (h, q, u) (heard-closed lost xs (st .page) k s g p true e (λ f. absurd (true-false refl f))))
+  turned s false st st′ c o r e at (runs l z) (going p u k t g h q) =
+      let j : placementOf xs .words (st .page) - suc l ≡ k = omega (arith, words-at xs (st .page)) in
+      let inside : k < length (sendingAt xs (st .page) .groups) = omega arith in
+      going p u (suc k) (omega arith) (going-on lost xs (st .page) k s g inside e) (rw (h, j) (ap some (partly-more lost xs (st .page) k inside))) (rw h q)
+  turned s true st st′ c o r e at (starts i z l may _) so =
+      let there : lost (slotOf (placementOf xs) i) ≡ true = ap lost (sym (at i refl)) ∙ e in
+      closed (λ m. rw there) refl (all-closed s true st o r e z so ∙ sym (heard-skip lost xs o i there))
+  turned s false st st′ c o r e at (starts i z l may _) so =
+      going o refl 0 (omega (arith, words-at xs i)) (going-from lost xs i s (at i refl) e)
+      (ap some (starts-as s i (ready-true (placementOf xs) s st i may .1))) (all-closed s false st o r e z so)
+  turned s true st st′ c o r e at (rests z _) so = closed (λ m. absurd (omega arith)) refl (all-closed s true st o r e z so)
+  turned s false st st′ c o r e at (rests z _) so = closed (λ m. absurd (omega arith)) refl (all-closed s false st o r e z so)
+
+  -- ---- the numbers of lost words and of orphans after one slot
+
+  taken-lost : (b : ℕ) (r : State) (h : Option Hearing) → take b r h .lost ≡ r .lost
+  unfolding take
+  taken-lost b r none = refl
+  taken-lost b r (some h) = refl
+
+  pub lost-more : (s : ℕ) (b : Bool) (c : Content) (r : State) → hear s r (saidIn b xs c) .lost ≡ r .lost + cond b 1 0
+  unfolding hear
+  lost-more s true c r = refl
+  lost-more s false idle r = omega arith
+  lost-more s false (address i) r = omega arith
+  lost-more s false (message i j) r = taken-lost (getD (sendingAt xs i .groups) j 0) r (r .held) ∙ omega arith
+
+  pub orphans-more : (s : ℕ) (b : Bool) (st st′ : placement.State) (c : Content) (o : List ℕ) (r : State) → lost s ≡ b
+      → Turn (placementOf xs) s st c st′ → SoFar lost xs s st o r → hear s r (saidIn b xs c) .orphans ≡ r .orphans + cond (orphaned lost xs s c) 1 0
   unfolding hear take
-  turned s st st′ c o r (runs l z) (closed z′ e) = absurd (omega arith)
-  turned s st st′ c o r (runs l z) (going p q h e) =
-      let i = st .page in
-      let n = placementOf xs .words i in
-      let k : n - st .left ≡ n - suc l = omega arith in
-      let k′ : n - (st .left - 1) ≡ suc (n - suc l) = omega arith in
-      let inside : n - suc l < length (sendingAt xs i .groups) = omega (arith, words-at xs i) in
-      going p q (omega arith) (rw (e, k, k′) (ap (busy xs p) (partly-more i (n - suc l) inside)))
-  turned s st st′ c o r (starts i z l may _) so =
-      let none-left : placementOf xs .words i - placementOf xs .words i ≡ 0 = omega arith in
-      going o refl (omega arith)
-      (rw (all-closed st o r z so, none-lost st o r z so, no-orphans st o r z so, none-left)
-      (ap (busy xs o) (starts-as s i (ready-true (placementOf xs) s st i may .1))))
-  turned s st st′ c o r (rests z _) so =
-      closed z (rw (all-closed st o r z so, none-lost st o r z so, no-orphans st o r z so))
+  orphans-more s true st st′ c o r e (runs l z) so = rw e (omega arith)
+  orphans-more s false st st′ c o r e (runs l z) (closed sp h q) =
+      let behind : spoilt lost xs (st .page) (placementOf xs .words (st .page) - suc l) ≡ true = rw z at (sp (omega arith)) in
+      rw (h, e) (ap (λ (x : Bool). r .orphans + cond x 1 0) (sym behind))
+  orphans-more s false st st′ c o r e (runs l z) (going p u k t g h q) =
+      let j : placementOf xs .words (st .page) - suc l ≡ k = omega (arith, words-at xs (st .page)) in
+      rw (h, e, j, not-spoilt lost xs (st .page) k s g) (omega arith)
+  orphans-more s true st st′ c o r e (starts i z l may _) so = omega arith
+  orphans-more s false st st′ c o r e (starts i z l may _) so = omega arith
+  orphans-more s true st st′ c o r e (rests z _) so = omega arith
+  orphans-more s false st st′ c o r e (rests z _) so = omega arith

@@ -2,7 +2,7 @@
 use mathlib.Core.Path.{_≡_, refl, _∙_}
 use mathlib.Core.Bool.{true, false}
 use mathlib.Core.List.{List}
-use mathlib.Core.Option.{some}
+use mathlib.Core.Option.{none, some}
 use Prim.Native.Nat.{ℕ, _+_, _*_, _/_, _%_, _^_, _≤_, _<_}
 use native.Mathlib.Omega.{arith}
 use lib.ListN.{getD}
@@ -42,6 +42,10 @@ obeying xs (message i j) = correction-theorem .of-message _
 pub corrected : (xs : List Sending) (c : Content) (w : ℕ) → w < 2 ^ 32 → distance w (codewordIn (codewordsOf xs) c) ≤ 2
     → nearest w ≡ some (codewordIn (codewordsOf xs) c)
 corrected xs c w h d = near-is w (codewordIn (codewordsOf xs) c) h d (obeying xs c)
+
+-- one that is three bits away is refused
+pub refused : (xs : List Sending) (c : Content) (w : ℕ) → w < 2 ^ 32 → distance w (codewordIn (codewordsOf xs) c) ≡ 3 → nearest w ≡ none
+refused xs c w h d = correction-theorem .refuses w h (correction-theorem .three-far w (codewordIn (codewordsOf xs) c) h (obeying xs c) d)
 
 -- ---- what the words say
 

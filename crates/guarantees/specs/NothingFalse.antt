@@ -1,0 +1,126 @@
+-- R-9, nothing false with three wrong bits: a job is sent, each sync has at most two flipped bits and each frame codeword at most three.
+-- `nothing-false` in proofs/NothingFalse.antt proves it.
+use mathlib.Core.Path.{_≡_}
+use mathlib.Core.Bool.{Bool, true, false, _||_}
+use mathlib.Core.List.{List, [], _∷_, flatMap}
+use Prim.Native.Nat.{ℕ, _+_, _*_, _≤_, _<_}
+use lib.Dec.{eqb}
+use lib.ListN.{length, getD, take, drop}
+use Rattle.base.specs.Hex.{pairsOf}
+use Rattle.base.specs.Lists.{Begins}
+use Rattle.codeword.specs.Nearest.{nearest}
+use Rattle.text.specs.Heard.{heardText}
+use Rattle.job.specs.Line.{codingOf, functionOf}
+use Rattle.job.specs.Pages.{pageAt}
+use Rattle.job.specs.Print.{printed}
+use Rattle.job.specs.Job.{jobOf}
+use Rattle.job.specs.declared.JobAnswer.the-variants.{Accepted}
+use Rattle.placement.specs.Placement.{batches, slotOf}
+use Rattle.transmission.specs.Sending.{sendingsOf, placementOf}
+use Rattle.transmission.specs.Transmission.{transmissionOf}
+use Rattle.transmission.specs.Transmitted.{slotIndex}
+use Rattle.transmission.specs.Report.{reportOf}
+use Rattle.transmission.specs.declared.Report.the-variants.{Sent}
+use Rattle.listing.specs.Text.{textOf}
+use Rattle.listing.specs.Words.{wordsOf}
+use Rattle.reader.specs.Meaning.{meaning}
+use Rattle.reader.specs.Answers.{readWords, readListing}
+use Rattle.reader.specs.declared.Meaning.the-variants.{Lost}
+use Rattle.reader.specs.declared.Reading.{Reading}
+use Rattle.guarantees.specs.Transport.{flipCount, Received, lostAt, lostTo, orphansTo}
+use Rattle.guarantees.specs.Gives.{Gives}
+use Rattle.guarantees.specs.Demand2.{pageLine, wordsLeft}
+use Rattle.guarantees.specs.Demand3.{page, count, wordIn}
+
+-- Below, s is an accepted job, and `words` is received for its transmission.
+
+-- ---- its slots
+
+-- how many there are
+abbrev pub slotCount : List ℕ → ℕ
+slotCount s = 16 * batches (placementOf (sendingsOf s))
+
+-- the one that holds page i's address; its message codewords are in the `count s i` slots directly behind
+abbrev pub addressSlot : List ℕ → ℕ → ℕ
+addressSlot s i = slotOf (placementOf (sendingsOf s)) i
+
+-- how many bits of the word of slot p are flipped
+abbrev pub slotFlips : List ℕ → List ℕ → ℕ → ℕ
+slotFlips s words p = flipCount (transmissionOf (sendingsOf s)) words (slotIndex p)
+
+-- slot p's word is lost: it has more than two flips
+abbrev pub gone : List ℕ → List ℕ → ℕ → Bool
+gone s words = lostAt (transmissionOf (sendingsOf s)) words
+
+-- page i's codewords, and the next slot's, if any, have at most two flips each
+abbrev pub Undamaged : List ℕ → List ℕ → ℕ → Type 0
+Undamaged s words i = (j : ℕ) → j ≤ count s i + 1 → addressSlot s i + j < slotCount s → slotFlips s words (addressSlot s i + j) ≤ 2
+
+-- ---- the line of a page whose address has at most two flips
+
+-- it has the byte `-`
+unfoldable pub hasDash : List ℕ → Bool
+hasDash [] = false
+hasDash (b ∷ line) = eqb b 45 || hasDash line
+
+-- a line of page i that is cut short
+pub record Cut (s words : List ℕ) (i : ℕ) (line : List ℕ) : Type 0 where
+  -- so many of its message words are read, and the next slot's word, a message word or the one behind the message, has three flips
+  pub read : ℕ
+  pub within : read ≤ count s i
+  pub before : (j : ℕ) → j ≤ read → slotFlips s words (addressSlot s i + j) ≤ 2
+  pub inside : addressSlot s i + 1 + read < slotCount s
+  pub broken : slotFlips s words (addressSlot s i + 1 + read) ≡ 3
+  -- the line has the page's identity, a kind, a text, and `-`
+  pub kind : ℕ
+  pub text : List ℕ
+  pub line-is : line ≡ printed (pageAt s i .identity) kind (pairsOf text) true
+  -- the text is that of the message words that are read, and begins the page's text
+  pub text-is : text ≡ heardText (codingOf (pageAt s i .kind)) (take read (page s i .groups))
+  pub begins : Begins text (pageAt s i .text)
+  -- where no message word is read the kind is the function's tone, else that of the undamaged line
+  pub tone : read ≡ 0 → kind ≡ functionOf (pageAt s i .kind)
+  pub same : 0 < read → kind ≡ pageAt s i .kind
+
+pub record LineOf (s words : List ℕ) (i : ℕ) (line : List ℕ) : Type 0 where
+  -- it has no `-` exactly when the page is undamaged, and is the page's own line then
+  pub whole : Undamaged s words i → hasDash line ≡ false
+  pub undamaged : hasDash line ≡ false → Undamaged s words i
+  pub own : hasDash line ≡ false → line ≡ pageLine s i
+  -- else the page is cut short
+  pub cut : hasDash line ≡ true → Cut s words i line
+
+-- ---- what is read
+
+-- the pages ps of a job of n pages are those whose address has at most two flips, each once, in the order of their slots
+pub record Logged (s : List ℕ) (n : ℕ) (words ps : List ℕ) : Type 0 where
+  pub only : (k : ℕ) → k < length ps → (getD ps k 0 < n) × (slotFlips s words (addressSlot s (getD ps k 0)) ≤ 2)
+  pub every : (i : ℕ) → i < n → slotFlips s words (addressSlot s i) ≤ 2 → (k : ℕ) × (k < length ps) × (getD ps k 0 ≡ i)
+  pub rising : (k l : ℕ) → k < l → l < length ps → addressSlot s (getD ps k 0) < addressSlot s (getD ps l 0)
+
+-- an answer to reading `read` that gives the lines of these pages; the lost words are those with more than two flips, and the orphans
+-- the message words with fewer behind a lost word of their page
+abbrev pub GivesLog : List ℕ → List ℕ → (ℕ → List ℕ) → List ℕ → ℕ → Reading → List ℕ → Type 0
+GivesLog s words line ps room answer read =
+    Gives (flatMap line ps) (length ps) (lostTo (gone s words) (slotCount s)) (orphansTo (gone s words) (sendingsOf s) (slotCount s))
+    room answer read
+
+-- what reading these words gives of a job of n pages
+pub record NothingFalse (s : List ℕ) (n : ℕ) (words : List ℕ) : Type 0 where
+  -- three flips always make the word lost
+  pub lost : (p : ℕ) → p < slotCount s → slotFlips s words p ≡ 3 → meaning (nearest (wordIn words p)) ≡ Lost
+  -- the pages that get a line, and the line of each
+  pub pages : List ℕ
+  pub line : ℕ → List ℕ
+  pub logged : Logged s n words pages
+  pub lines : (i : ℕ) → i < n → slotFlips s words (addressSlot s i) ≤ 2 → LineOf s words i (line i)
+  -- these lines and no others are printed: of the words behind the preamble, and of the listing of all
+  pub from-words : (room : ℕ) → GivesLog s words line pages room (readWords (drop 18 words) room) (drop 18 words)
+  pub from-listing : (room : ℕ) → GivesLog s words line pages room (readListing (textOf words) room) (wordsOf (textOf words))
+
+pub record ThreeWrongBits : Type 0 where
+  -- every accepted job, and all words that are received for its transmission
+  pub of-job : (s : List ℕ) (n : ℕ) → jobOf s ≡ Accepted n → (words : List ℕ) → Received 3 (transmissionOf (sendingsOf s)) words → NothingFalse s n words
+  -- every job that `send` reports as sent, whatever the lent slices are, and all words that are received for the m that it reports
+  pub of-sending : (s old : List ℕ) (slots b m : ℕ) → reportOf s (length old) slots ≡ Sent b m
+      → (words : List ℕ) → Received 3 (wordsLeft s old slots m) words → (n : ℕ) × (jobOf s ≡ Accepted n) × NothingFalse s n words
