@@ -21,13 +21,13 @@ use Rattle.transmission.specs.Sending.{Sending, sendingsOf, placementOf}
 use Rattle.transmission.specs.Transmission.{Codewords, codewordsOf, addressOf, messageOf, wordAt, transmissionOf}
 use Rattle.transmission.specs.Transmitted.{slotIndex, slotWord, isAddress, Transmitted}
 use Rattle.transmission.specs.declared.Report.the-variants.{Sent}
-use Rattle.transmission.proofs.Sendings.{sending-at, words-at, sendings-placed, sendings-count}
+use Rattle.transmission.proofs.Sendings.{sending-at, words-at, sendings-placed, sendings-count, accepted-sendings}
 use Rattle.transmission.proofs.TransmissionLaws.{transmission-length, transmission-at}
 use Rattle.transmission.proofs.Transmitted.{transmitted}
 use Rattle.sender.specs.declared.Answer.the-variants.{Word, Done}
 use Rattle.sender.proofs.Stepping.{job-stepping}
 use Rattle.guarantees.specs.Demand3.{Call, page, count, slot, wordIn, earlier, InTime, AsPlaced, InWords, Carried}
-use Rattle.guarantees.proofs.AcceptedJob.{allowed, page-count, groups-count}
+use Rattle.guarantees.proofs.Counts.{groups-count, sent-count, page-count}
 use Rattle.guarantees.proofs.Reported.{Reported, reported}
 
 -- what is written over the front of a slice that has room for it stands in the slice
@@ -42,10 +42,10 @@ module _ (s : List ℕ) (n : ℕ) (ok : jobOf s ≡ Accepted n) where
   codewords = codewordsOf (sendingsOf s)
 
   word-count : (i : ℕ) → i < n → job .words i ≡ count s i
-  word-count i l = words-at (sendingsOf s) i ∙ ap (λ (x : Sending). length (x .groups)) (sending-at s i) ∙ groups-count s n ok i l
+  word-count i l = words-at (sendingsOf s) i ∙ sent-count s n ok i l
 
   placed : Placed job
-  placed = sendings-placed (allowed s n ok)
+  placed = sendings-placed (accepted-sendings s n ok)
 
   all-codewords : sum (job .words) (job .pages) ≡ sum (count s) n
   all-codewords = rw (page-count s n ok) (sum-cong (job .words) (count s) n word-count)

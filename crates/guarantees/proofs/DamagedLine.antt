@@ -20,15 +20,15 @@ use Rattle.job.specs.Job.{jobOf}
 use Rattle.job.specs.declared.JobAnswer.the-variants.{Accepted}
 use Rattle.transmission.specs.Sending.{Sending, sendingsOf, sendingAt}
 use Rattle.transmission.specs.Transmission.{transmissionOf}
-use Rattle.transmission.proofs.Sendings.{sending-at}
+use Rattle.transmission.proofs.Sendings.{sending-at, accepted-sendings}
 use Rattle.reader.specs.Lines.{kindHeard, digitsHeard, lineHeard}
 use Rattle.guarantees.specs.Transport.{Received, readBehind, hearingIn}
 use Rattle.guarantees.specs.Demand2.{pageLine}
 use Rattle.guarantees.specs.Demand3.{page, count}
 use Rattle.guarantees.specs.NothingFalse.{slotCount, addressSlot, slotFlips, Undamaged, gone, hasDash, Cut, LineOf}
 use Rattle.guarantees.proofs.Received.{outside, few-flips}
-use Rattle.guarantees.proofs.LineBack.{Shown, shown, Texted, page-texted, line-back}
-use Rattle.guarantees.proofs.AcceptedJob.{groups-count, allowed}
+use Rattle.guarantees.proofs.LineBack.{tone-kind, Shown, shown, Texted, page-texted, line-back}
+use Rattle.guarantees.proofs.Counts.{groups-count, sent-count}
 use Rattle.guarantees.proofs.Dash.{printed-dash}
 
 module _ (s words : List ℕ) (p : ℕ) where
@@ -48,14 +48,14 @@ module _ (s : List ℕ) (n : ℕ) (ok : jobOf s ≡ Accepted n) (most : ℕ) (th
   m = readBehind (gone s words) (sendingsOf s) i
 
   size : length (sendingAt (sendingsOf s) i .groups) ≡ count s i
-  size = ap (λ (x : Sending). length (x .groups)) (sending-at s i) ∙ groups-count s n ok i l
+  size = sent-count s n ok i l
 
   reads : Least (λ j. gone s words (addressSlot s i + 1 + j)) (count s i + 1) m
   reads = rw (← size) (least-is (λ j. gone s words (addressSlot s i + 1 + j)) (length (sendingAt (sendingsOf s) i .groups) + 1))
 
   -- behind the last slot no word has flips
   no-flips : (p : ℕ) → slotCount s ≤ p → slotFlips s words p ≡ 0
-  no-flips p h = outside (sendingsOf s) (allowed s n ok) most words rec p h
+  no-flips p h = outside (sendingsOf s) (accepted-sendings s n ok) most words rec p h
 
   -- ---- how far it is read
 
@@ -126,7 +126,7 @@ module _ (s : List ℕ) (n : ℕ) (ok : jobOf s ≡ Accepted n) (most : ℕ) (th
         within = short;
         before = read-on;
         inside = ⊎-elim (λ h. absurd (omega (arith, no-flips next h))) (λ h. h) (le-or-lt (slotCount s) next);
-        broken = omega (arith, few-flips (sendingsOf s) (allowed s n ok) most words rec next);
+        broken = omega (arith, few-flips (sendingsOf s) (accepted-sendings s n ok) most words rec next);
         kind = kindHeard (functionOf kind) groups;
         text = heardText (codingOf kind) groups;
         line-is =
@@ -135,7 +135,7 @@ module _ (s : List ℕ) (n : ℕ) (ok : jobOf s ≡ Accepted n) (most : ℕ) (th
             (le-leb m (count s i) short);
         text-is = refl;
         begins = rw (texted .back) at (text-front (codingOf kind) m (page s i .groups));
-        tone = λ e. seen .tone-is (front ∙ e);
+        tone = λ e. tone-kind (functionOf kind) groups (front ∙ e);
         same = λ h. seen .kind-is (omega arith);
       }
 

@@ -7,7 +7,8 @@ use native.Mathlib.Omega.{arith}
 use lib.Dec.{eqb, leb}
 use borrow.Author.Tests.{ne-eqb}
 use Rattle.base.specs.Hex.{digitOf, digitsOf, pairsOf}
-use Rattle.job.specs.Print.{spaced, printed}
+use Rattle.base.proofs.Bools.{true-false}
+use Rattle.job.specs.Print.{spaced, ending, printed}
 use Rattle.guarantees.specs.NothingFalse.{hasDash}
 
 behind : (s t : List ℕ) → hasDash s ≡ false → hasDash (s ++ t) ≡ hasDash t
@@ -16,7 +17,7 @@ behind [] t e = refl
 behind (b ∷ s) t e = go (eqb b 45) e (behind s t)
   where
     go : (x : Bool) → x || hasDash s ≡ false → (hasDash s ≡ false → hasDash (s ++ t) ≡ hasDash t) → x || hasDash (s ++ t) ≡ hasDash t
-    go true q h = absurd (mathlib.Core.Bool.true≢false q)
+    go true q h = absurd (true-false refl q)
     go false q h = h q
 
 no-dash : (v : ℕ) → eqb (digitOf v) 45 ≡ false
@@ -50,6 +51,6 @@ printed-dash identity kind text cut =
     ∙ behind (spaced (pairsOf text)) _ (in-spaced (pairsOf text) (in-pairs text))
     ∙ go cut
   where
-    go : (x : Bool) → hasDash (Rattle.job.specs.Print.ending x) ≡ x
+    go : (x : Bool) → hasDash (ending x) ≡ x
     go true = refl
     go false = refl

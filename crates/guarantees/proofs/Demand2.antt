@@ -11,12 +11,15 @@ use Rattle.transmission.specs.Sending.{sendingsOf, sendingAt, placementOf}
 use Rattle.transmission.specs.Transmission.{codewordsOf, transmissionOf}
 use Rattle.transmission.specs.Report.{reportOf}
 use Rattle.transmission.specs.declared.Report.the-variants.{Sent}
+use Rattle.transmission.proofs.Sendings.{sendable, accepted-sendings}
 use Rattle.transmission.proofs.TransmissionLaws.{transmission-length}
 use Rattle.reader.specs.Lines.{linesHeard}
 use Rattle.reader.specs.declared.Reading.{Reading}
+use Rattle.guarantees.specs.Order.{InOrder}
 use Rattle.guarantees.specs.Transport.{Received, hearingOf, asSent}
 use Rattle.guarantees.specs.Demand2.{pageLine, inSlotOrder, linesInOrder, GivesBack, SamePages, Demand2, wordsLeft, SentThenRead}
-use Rattle.guarantees.proofs.AcceptedJob.{allowed, page-count, ordered}
+use Rattle.guarantees.proofs.Order.{in-order}
+use Rattle.guarantees.proofs.Counts.{page-count}
 use Rattle.guarantees.proofs.Received.{clean}
 use Rattle.guarantees.proofs.Transport.{heard-as-sent}
 use Rattle.guarantees.proofs.Answered.{lines-are, GivesHeard, from-words, from-listing}
@@ -26,15 +29,18 @@ use Rattle.guarantees.proofs.Reported.{reported}
 -- ---- an accepted job
 
 module _ (s : List ℕ) (n : ℕ) (ok : jobOf s ≡ Accepted n) where
+  pub ordered : InOrder (placementOf (sendingsOf s)) (inSlotOrder s)
+  ordered = in-order (placementOf (sendingsOf s)) (sendable (accepted-sendings s n ok) .framed)
+
   all-lines : linesHeard (asSent (sendingsOf s) .pages) ≡ linesInOrder s
   unfolding asSent
   all-lines =
       lines-are (λ p. hearingOf (sendingAt (sendingsOf s) p)) (pageLine s) (inSlotOrder s)
-      (λ k l. line-back s n ok (getD (inSlotOrder s) k 0) (omega (arith, ordered s n ok .only k l, page-count s n ok)))
+      (λ k l. line-back s n ok (getD (inSlotOrder s) k 0) (omega (arith, ordered .only k l, page-count s n ok)))
 
   all-pages : length (asSent (sendingsOf s) .pages) ≡ n
   unfolding asSent
-  all-pages = length-map (inSlotOrder s) (λ p. hearingOf (sendingAt (sendingsOf s) p)) ∙ ordered s n ok .once ∙ page-count s n ok
+  all-pages = length-map (inSlotOrder s) (λ p. hearingOf (sendingAt (sendingsOf s) p)) ∙ ordered .once ∙ page-count s n ok
 
   gives-back : (room : ℕ) (answer : Reading) (words : List ℕ) → GivesHeard (asSent (sendingsOf s)) room answer words → GivesBack s n room answer words
   unfolding asSent
@@ -43,11 +49,11 @@ module _ (s : List ℕ) (n : ℕ) (ok : jobOf s ≡ Accepted n) where
   same-pages : (words : List ℕ) {most : ℕ} → Received most (transmissionOf (sendingsOf s)) words → most ≤ 2 → SamePages s n words
   same-pages words {most} rec few =
       let xs = sendingsOf s in
-      let t = heard-as-sent xs (allowed s n ok) most few words rec in
+      let t = heard-as-sent xs (accepted-sendings s n ok) most few words rec in
       record {
-        in-order = ordered s n ok;
-        from-words = λ room. gives-back room _ _ (from-words xs (allowed s n ok) most words rec (asSent xs) t room);
-        from-listing = λ room. gives-back room _ _ (from-listing xs (allowed s n ok) most words rec (asSent xs) t room);
+        in-order = ordered;
+        from-words = λ room. gives-back room _ _ (from-words xs (accepted-sendings s n ok) most words rec (asSent xs) t room);
+        from-listing = λ room. gives-back room _ _ (from-listing xs (accepted-sendings s n ok) most words rec (asSent xs) t room);
       }
 
 pub demand2 : Demand2

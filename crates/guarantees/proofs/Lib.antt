@@ -8,7 +8,7 @@ pub mod Transport
 pub mod Answered
 pub mod LineBack
 pub mod Reported
-pub mod AcceptedJob
+pub mod Counts
 pub mod Demand2
 pub mod Acceptance
 pub mod Carried

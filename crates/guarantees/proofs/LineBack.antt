@@ -60,13 +60,13 @@ text-pairs l e =
 
 -- ---- the kind and the digits that are heard of groups, by the kind that was sent
 
--- groups of a page of this kind: with any the kind is the page's, with none it is the function's tone
+-- with groups the kind is the page's, and the digits are those of their text
 pub record Shown (kind : ℕ) (gs : List ℕ) : Type 0 where
-  pub tone-is : length gs ≡ 0 → kindHeard (functionOf kind) gs ≡ functionOf kind
   pub kind-is : 0 < length gs → kindHeard (functionOf kind) gs ≡ kind
   pub digits-are : digitsHeard (functionOf kind) gs ≡ pairsOf (heardText (codingOf kind) gs)
 
-tone-kind : (f : ℕ) (gs : List ℕ) → length gs ≡ 0 → kindHeard f gs ≡ f
+-- with none it is the function's tone
+pub tone-kind : (f : ℕ) (gs : List ℕ) → length gs ≡ 0 → kindHeard f gs ≡ f
 tone-kind f [] e = refl
 tone-kind f (g ∷ gs) e = absurd (omega arith)
 
@@ -92,16 +92,16 @@ no-digits f = rw (no-text Numeric, no-text Alphanumeric) (go (eqb f 0) (eqb f 3)
 shown-tone : (kind : ℕ) (gs : List ℕ) → length gs ≡ 0 → Shown kind gs
 unfolding pairsOf
 shown-tone kind [] e =
-    record { tone-is = λ _. refl; kind-is = λ h. absurd (omega arith); digits-are = rw (no-text (codingOf kind)) (no-digits (functionOf kind)) }
+    record { kind-is = λ h. absurd (omega arith); digits-are = rw (no-text (codingOf kind)) (no-digits (functionOf kind)) }
 shown-tone kind (g ∷ gs) e = absurd (omega arith)
 
 shown-numeric : (gs : List ℕ) → Shown 4 gs
 unfolding functionOf codingOf
-shown-numeric gs = record { tone-is = tone-kind 0 gs; kind-is = text-kind 0 gs; digits-are = refl }
+shown-numeric gs = record { kind-is = text-kind 0 gs; digits-are = refl }
 
 shown-alphanumeric : (gs : List ℕ) → Shown 5 gs
 unfolding functionOf codingOf
-shown-alphanumeric gs = record { tone-is = tone-kind 3 gs; kind-is = text-kind 3 gs; digits-are = refl }
+shown-alphanumeric gs = record { kind-is = text-kind 3 gs; digits-are = refl }
 
 pub shown : (kind : ℕ) (gs : List ℕ) → kind ≤ 5 → (kind ≤ 3 → length gs ≡ 0) → Shown kind gs
 shown kind gs most tone =
@@ -156,7 +156,7 @@ line-heard l s =
     let h = shown (kindOf l) gs (t .known) (t .tone) in
     let kind : kindHeard (functionOf (kindOf l)) gs ≡ kindOf l =
     ⊎-elim
-    (λ e. h .tone-is (t .tone e) ∙ tone-function (kindOf l) e)
+    (λ e. tone-kind (functionOf (kindOf l)) gs (t .tone e) ∙ tone-function (kindOf l) e)
     (λ e. h .kind-is (some-groups (codingOf (kindOf l)) (textOf l) (s .some e)))
     (le-or-lt (kindOf l) 3) in
     ap₂ (λ (k : ℕ) (ds : List ℕ). printed (identityOf l) k ds false) kind (h .digits-are ∙ ap pairsOf (t .back) ∙ text-pairs l (s .formed))

@@ -1,6 +1,6 @@
 -- R-9: nothing false with three wrong bits. Assumes nothing.
 use mathlib.Core.Path.{_≡_, refl, sym, ap, _∙_}
-use mathlib.Core.Bool.{Bool, true, false, not}
+use mathlib.Core.Bool.{Bool, not, Bool·not-not}
 use mathlib.Core.List.{List}
 use Prim.Native.Nat.{ℕ, _≤_, _<_}
 use native.Mathlib.Omega.{arith}
@@ -14,6 +14,7 @@ use Rattle.job.specs.declared.JobAnswer.the-variants.{Accepted}
 use Rattle.placement.specs.Placement.{contentAt}
 use Rattle.transmission.specs.Sending.{Sending, sendingsOf, placementOf}
 use Rattle.transmission.specs.Transmission.{transmissionOf}
+use Rattle.transmission.proofs.Sendings.{accepted-sendings}
 use Rattle.reader.specs.Meaning.{meaning}
 use Rattle.reader.specs.declared.Meaning.the-variants.{Lost}
 use Rattle.reader.specs.declared.Reading.{Reading}
@@ -25,14 +26,10 @@ use Rattle.guarantees.proofs.SoFar.{saidIn}
 use Rattle.guarantees.proofs.Received.{received-word, says-slot}
 use Rattle.guarantees.proofs.Transport.{heard-but}
 use Rattle.guarantees.proofs.Answered.{lines-are, GivesHeard, from-words, from-listing}
-use Rattle.guarantees.proofs.AcceptedJob.{allowed, page-count, ordered}
+use Rattle.guarantees.proofs.Counts.{page-count}
 use Rattle.guarantees.proofs.DamagedLine.{not-gone, few, lineRead, line-of}
 use Rattle.guarantees.proofs.Reported.{reported}
-use Rattle.guarantees.proofs.Demand2.{front}
-
-not-true : (b : Bool) → not b ≡ true → b ≡ false
-not-true true e = sym e
-not-true false e = refl
+use Rattle.guarantees.proofs.Demand2.{ordered, front}
 
 module _ (s : List ℕ) (n : ℕ) (ok : jobOf s ≡ Accepted n) (words : List ℕ) where
   abbrev xs : List Sending
@@ -52,7 +49,7 @@ module _ (s : List ℕ) (n : ℕ) (ok : jobOf s ≡ Accepted n) (words : List �
         only = λ k l.
             let there = within .there k l in
             let old = ordered s n ok .only (within .place k) (within .inside k l) in
-            (omega (arith, page-count s n ok), few s words (addressSlot s (getD pages k 0)) (not-true _ (within .passes k l)));
+            (omega (arith, page-count s n ok), few s words (addressSlot s (getD pages k 0)) (sym (Bool·not-not _) ∙ ap not (within .passes k l)));
         every = λ i l f.
             let x = ordered s n ok .every i (omega (arith, page-count s n ok)) in
             let y = within .every (x .0) (x .1) (rw (x .2) (ap not (not-gone s words (addressSlot s i) f))) in
@@ -74,13 +71,13 @@ module _ (s : List ℕ) (n : ℕ) (ok : jobOf s ≡ Accepted n) (words : List �
   module _ (most : ℕ) (rec : Received most (transmissionOf xs) words) (three : most ≤ 3) where
     three-lost : (p : ℕ) → p < slotCount s → slotFlips s words p ≡ 3 → meaning (nearest (wordIn words p)) ≡ Lost
     three-lost p l e =
-        ap (λ (w : ℕ). meaning (nearest w)) (sym (received-word xs (allowed s n ok) most words rec p l))
-        ∙ says-slot xs (allowed s n ok) most words rec p l three
+        ap (λ (w : ℕ). meaning (nearest w)) (sym (received-word xs (accepted-sendings s n ok) most words rec p l))
+        ∙ says-slot xs (accepted-sendings s n ok) most words rec p l three
         ∙ ap (λ (b : Bool). saidIn b xs (contentAt (placementOf xs) p)) (lt-ltb 2 (slotFlips s words p) (omega arith))
 
     all-true : NothingFalse s n words
     all-true =
-        let a = allowed s n ok in
+        let a = accepted-sendings s n ok in
         let h = heardBut (gone s words) xs in
         let t = heard-but xs a most three words rec in
         record {

@@ -1,5 +1,5 @@
--- An accepted job: its sendings, how many pages and message codewords it has, and the order of their slots. Assumes nothing.
-use mathlib.Core.Path.{_≡_, _∙_}
+-- How many pages an accepted job has, and how many message codewords each of them. Assumes nothing.
+use mathlib.Core.Path.{_≡_, ap, _∙_}
 use mathlib.Core.List.{List}
 use mathlib.Core.Logic.{⊎-elim}
 use Prim.Native.Nat.{ℕ, _≤_, _<_}
@@ -14,14 +14,9 @@ use Rattle.job.specs.Pages.{pageAt}
 use Rattle.job.specs.Job.{jobOf}
 use Rattle.job.specs.declared.JobAnswer.the-variants.{Accepted}
 use Rattle.job.proofs.Accepted.{accepted-job}
-use Rattle.transmission.specs.Sending.{sendingsOf, placementOf, AllAllowed}
-use Rattle.transmission.proofs.Sendings.{pages-are, sendable, sendings-count, accepted-sendings}
-use Rattle.guarantees.specs.Order.{InOrder}
-use Rattle.guarantees.specs.Demand2.{inSlotOrder}
+use Rattle.transmission.specs.Sending.{Sending, sendingsOf, sendingAt, placementOf}
+use Rattle.transmission.proofs.Sendings.{sending-at, pages-are, sendings-count}
 use Rattle.guarantees.specs.Demand3.{page, messageCount, count}
-use Rattle.guarantees.proofs.Order.{in-order}
-
--- ---- how many message codewords a page has
 
 -- the groups of a text are as many as document 01 says, where a tone has none
 count-of : (kind c : ℕ) → kind ≤ 5 → (kind ≤ 3 → c ≡ 0) → groupsOf (codingOf kind) c ≡ messageCount kind c
@@ -47,11 +42,9 @@ module _ (s : List ℕ) (n : ℕ) (ok : jobOf s ≡ Accepted n) where
       groups-length (codingOf (pageAt s i .kind)) (pageAt s i .text)
       ∙ count-of (pageAt s i .kind) (length (pageAt s i .text)) (rw (p .kind-is) (q .known)) (rw (p .kind-is, p .text-is) (q .tone))
 
-  pub allowed : AllAllowed (sendingsOf s)
-  allowed = accepted-sendings s n ok
+  -- the same of its sending
+  pub sent-count : (i : ℕ) → i < n → length (sendingAt (sendingsOf s) i .groups) ≡ count s i
+  sent-count i l = ap (λ (x : Sending). length (x .groups)) (sending-at s i) ∙ groups-count i l
 
   pub page-count : placementOf (sendingsOf s) .pages ≡ n
   page-count = pages-are (sendingsOf s) ∙ sendings-count s n ok
-
-  pub ordered : InOrder (placementOf (sendingsOf s)) (inSlotOrder s)
-  ordered = in-order (placementOf (sendingsOf s)) (sendable allowed .framed)
