@@ -45,6 +45,10 @@ pub const FAULTS: &[&str] = &[
     "no-pause-behind-a-sync",
     "no-tone-in-the-pause",
     "no-overtaking-in-the-pause",
+    "reads-31-bits",
+    "whole-before-a-lost-word",
+    "joined-behind-a-lost-word",
+    "cut-keeps-its-kind",
 ];
 
 fn is(fault: &str) -> bool {
@@ -145,12 +149,36 @@ unsafe extern "C" fn card_list(job: *const u8, job_length: usize, out: *mut u8, 
     }
 }
 
+/// The words of batches as they are or, for some mistakes, as they are wrongly taken; and how many lost ones are then missed.
+fn taken_words(words: &[u32]) -> (Vec<u32>, u32) {
+    let (mut words, mut missed) = (words.to_vec(), 0);
+    let slots: Vec<usize> = (0..words.len()).filter(|at| at % 17 != 0).collect();
+    for pair in slots.windows(2) {
+        let (at, next) = (pair[0], pair[1]);
+        if codeword::correct(words[at]).is_some() {
+            continue;
+        }
+        let before_message = codeword::correct(words[next]).is_some_and(|word| word >> 31 == 1);
+        if is("reads-31-bits") {
+            words[at] ^= 1;
+        } else if is("whole-before-a-lost-word") && !before_message {
+            words[at] = codeword::IDLE;
+            missed += 1;
+        } else if is("joined-behind-a-lost-word") && before_message {
+            words.swap(at, next);
+        }
+    }
+    (words, missed)
+}
+
 #[no_mangle]
 unsafe extern "C" fn card_read_words(words: *const u32, words_length: usize, out: *mut u8, out_length: usize) -> Reading {
     let words = from_raw_parts(words, words_length);
     let out = from_raw_parts_mut(out, out_length);
     let most = if is("301-batches") && words.len() == 17 * 301 { words.len() - 17 } else { words.len() };
-    reading(reader::read_words(&words[..most], out), out)
+    let (words, missed) = taken_words(&words[..most]);
+    let result = reader::read_words(&words, out).map(|read| reader::Reading { lost: read.lost + missed, ..read });
+    reading(result, out)
 }
 
 #[no_mangle]
@@ -177,6 +205,15 @@ fn reading(result: Result<reader::Reading, Refusal>, out: &mut [u8]) -> Reading 
                 for pair in 1..bytes {
                     if out[pair - 1] == b'-' {
                         out[pair - 1] = b'\n';
+                    }
+                }
+            }
+            if is("cut-keeps-its-kind") {
+                for at in 2..bytes {
+                    match &mut out[at - 2..=at] {
+                        [b' ', kind @ b'0', b'-'] => *kind = b'4',
+                        [b' ', kind @ b'3', b'-'] => *kind = b'5',
+                        _ => {}
                     }
                 }
             }

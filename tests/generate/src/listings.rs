@@ -15,10 +15,14 @@ fn put(word: u32, end: u8, out: &mut Vec<u8>) {
 
 /// A listing with so many preamble lines, all of the given word, and the batches.
 pub fn listing(preamble_lines: usize, preamble: u32, batches: &[u32]) -> Vec<u8> {
-    let mut out = Vec::with_capacity(18 * preamble_lines + 9 * batches.len());
-    for _ in 0..preamble_lines {
-        put(preamble, b' ', &mut out);
-        put(preamble, b'\n', &mut out);
+    of_words(&vec![preamble; 2 * preamble_lines], batches)
+}
+
+/// A listing with these preamble words, two a line, and the batches.
+pub fn of_words(preamble: &[u32], batches: &[u32]) -> Vec<u8> {
+    let mut out = Vec::with_capacity(9 * (preamble.len() + batches.len()));
+    for (i, &word) in preamble.iter().enumerate() {
+        put(word, if i.is_multiple_of(2) { b' ' } else { b'\n' }, &mut out);
     }
     for (i, &word) in batches.iter().enumerate() {
         put(word, if (i % BATCH).is_multiple_of(2) { b'\n' } else { b' ' }, &mut out);

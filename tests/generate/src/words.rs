@@ -113,8 +113,11 @@ pub enum Damage {
     Heavy,
     /// A few slot words have three or four wrong bits; syncs at most two.
     Spots,
+    /// A slot word has three wrong bits once in so many times; every other word has none to two.
+    Three(usize),
 }
 
+/// The kinds of damage that slices and listings are drawn with.
 pub const DAMAGES: &[Damage] = &[Damage::None, Damage::Light, Damage::Rare, Damage::Heavy, Damage::Spots];
 
 /// Flips bits in batches.
@@ -123,7 +126,8 @@ pub fn damage(random: &mut Random, words: &mut [u32], damage: Damage) {
         let sync = i % BATCH == 0;
         let flips = match damage {
             Damage::None => 0,
-            Damage::Light => random.below(3),
+            Damage::Three(count) if !sync && random.once_in(count) => 3,
+            Damage::Light | Damage::Three(_) => random.below(3),
             Damage::Rare if random.once_in(10) => random.between(1, 2),
             Damage::Rare => 0,
             Damage::Heavy => random.below(5),
@@ -200,6 +204,7 @@ pub fn slice_limits() -> Vec<Vec<u32>> {
 #[cfg(test)]
 mod tests {
     use super::*;
+    use independent::judge;
     use independent::reader::log_of_words;
     use std::collections::BTreeSet;
 
@@ -226,6 +231,43 @@ mod tests {
         assert!(slice_limits().iter().any(|words| log_of_words(words).is_err_and(|refusal| refusal.number == 23)));
         assert_eq!(kinds, (b'0'..=b'7').collect());
         assert!(cuts > 100);
+    }
+
+    #[test]
+    fn three_wrong_bits_are_in_slots_alone() {
+        let whole = crate::listings::idle_batches(100);
+        let mut words = whole.clone();
+        damage(&mut Random::new(3), &mut words, Damage::Three(4));
+        let flips: Vec<u32> = words.iter().zip(&whole).map(|(word, whole)| (word ^ whole).count_ones()).collect();
+        let syncs: BTreeSet<u32> = flips.iter().step_by(BATCH).copied().collect();
+        assert_eq!(syncs, [0, 1, 2].into());
+        assert_eq!(flips.iter().copied().collect::<BTreeSet<u32>>(), [0, 1, 2, 3].into());
+        let three = flips.iter().filter(|&&flips| flips == 3).count();
+        assert!((300..500).contains(&three), "{three} of 1600");
+    }
+
+    /// R-9, of what the independent implementation reads.
+    #[test]
+    fn with_three_wrong_bits_nothing_false_is_read() {
+        let mut random = Random::new(1);
+        let (mut whole, mut cut, mut unseen, mut orphans) = (0, 0, 0, 0);
+        for rate in [2, 5, 20, 100, 500, 1_000_000] {
+            for _ in 0..100 {
+                let job = jobs::good(&mut random);
+                let accepted = Accepted::new(&job).unwrap();
+                let batches = accepted.words().split_off(18);
+                let mut received = batches.clone();
+                damage(&mut random, &mut received, Damage::Three(rate));
+                let (pages, log) = (judge::sent(&job, &accepted.placement.slots), log_of_words(&received).unwrap());
+                assert_eq!(judge::judge(&pages, &judge::flips(&batches, &received), &log), Ok(()));
+                let dashes = log.lines.iter().filter(|&&byte| byte == b'-').count();
+                cut += dashes;
+                whole += log.pages as usize - dashes;
+                unseen += pages.len() - log.pages as usize;
+                orphans += log.orphans;
+            }
+        }
+        assert!(whole > 1000 && cut > 1000 && unseen > 500 && orphans > 1000, "{whole} {cut} {unseen} {orphans}");
     }
 
     #[test]

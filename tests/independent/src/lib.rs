@@ -1,8 +1,9 @@
-//! Document 01 in plain Rust, written from the document alone: the yardstick that the proved library is compared with, and the
+//! Document 01 in plain Rust, with what document 02 asks, written from the documents alone: the yardstick that the proved library is compared with, and the
 //! baseline of the benchmarks. It shares no line with the library and has no proofs.
 
 pub mod codeword;
 pub mod job;
+pub mod judge;
 pub mod listing;
 pub mod placement;
 pub mod program;

@@ -6,8 +6,9 @@
 //! The second corrects every 32-bit word and compares nothing else. Prints how many comparisons it made of each sort; at the first
 //! difference prints the input and both answers and ends with 1.
 //! What is compared: the answer, every unit of every lent buffer and the sentinels around it, and, for a declined call, that
-//! the buffers are as before.
+//! the buffers are as before. What the library reads of a transmission with up to three wrong bits a word is judged by R-9.
 
+mod bad_day;
 mod compare;
 mod lent;
 mod programs;
@@ -129,7 +130,9 @@ fn limits(comparison: &mut Comparison) -> Outcome {
         comparison.send(&job, card::WORDS, card::PAGES)?;
         comparison.list(&job, card::LISTING_BYTES)?;
         comparison.round_trip(&job)?;
+        comparison.bad_day(&job)?;
     }
+    comparison.bad_day_limits()?;
     comparison.state_limits()
 }
 
@@ -161,6 +164,7 @@ fn round(comparison: &mut Comparison, random: &mut Random) -> Outcome {
         let job = jobs::good(random);
         comparison.job(&job)?;
         comparison.round_trip(&job)?;
+        comparison.bad_day(&job)?;
     }
     for _ in 0..40 {
         comparison.job(&jobs::bad(random))?;

@@ -1,0 +1,286 @@
+//! R-9 as checks of one reading of a damaged transmission, whoever read it. It goes by R-9's sentences alone: it knows how many bits
+//! were flipped in each slot's word and looks at no codeword.
+
+use crate::job;
+use crate::placement::BATCH_WORDS;
+use crate::reader::Log;
+
+/// A page that was sent.
+pub struct Sent<'a> {
+    /// Its line in the job, newline included: the one that is printed where nothing is damaged.
+    line: &'a [u8],
+    message_words: usize,
+    /// The slot of its address, as sending reports it.
+    slot: usize,
+}
+
+/// The pages of a good job, in job order, with the slots that were reported for them.
+pub fn sent<'a>(job: &'a [u8], slots: &[u32]) -> Vec<Sent<'a>> {
+    let pages = job::parse(job).expect("good job");
+    let lines = job.split_inclusive(|&byte| byte == b'\n');
+    let sent = lines.zip(pages).zip(slots);
+    sent.map(|((line, page), &slot)| Sent { line, message_words: page.message_words(), slot: slot as usize }).collect()
+}
+
+/// How many bits of each slot's word are flipped.
+pub fn flips(sent: &[u32], received: &[u32]) -> Vec<u32> {
+    let slots = sent.iter().zip(received).enumerate().filter(|(i, _)| i % BATCH_WORDS != 0);
+    slots.map(|(_, (sent, received))| (sent ^ received).count_ones()).collect()
+}
+
+/// What is asked of a reading, in this order, and named where it is broken: R-9's sentences, and document 01's counts with them.
+#[derive(Clone, Copy, Debug, PartialEq, Eq)]
+pub enum Broken {
+    /// The pages lie within the batches, by their reported slots.
+    Slots,
+    /// Every word with three flips is lost, and no other.
+    Lost,
+    /// A page has a line where its address has at most two flips, and there only.
+    OneLineEach,
+    /// As many pages are reported as there are lines.
+    Pages,
+    /// Each line is for a sent page of its own, in slot order.
+    InSlotOrder,
+    /// A page whose codewords and next slot have at most two flips each has its undamaged line.
+    Whole,
+    /// Any other line has its `-`, directly before the newline.
+    Cut,
+    /// A cut line has its page's kind or, where no message word was read, the tone of its function.
+    Kind,
+    /// The text of a cut line begins its page's text.
+    Text,
+    /// Message words that were read behind a lost word of their own page are the orphans.
+    Orphans,
+}
+
+/// What a reading breaks first, if anything. `flips` has the number of flipped bits of each slot's word, at most three.
+pub fn judge(sent: &[Sent], flips: &[u32], read: &Log) -> Result<(), Broken> {
+    let mut pages = sent.iter().map(|sent| Received::new(sent, flips)).collect::<Option<Vec<_>>>().ok_or(Broken::Slots)?;
+    pages.sort_by_key(|page| page.sent.slot);
+    let with_line = || pages.iter().filter(|page| page.address_read());
+    let lines = || read.lines.split_inclusive(|&byte| byte == b'\n');
+
+    holds(read.lost as usize == flips.iter().filter(|&&flips| flips == 3).count(), Broken::Lost)?;
+    holds(lines().count() == with_line().count(), Broken::OneLineEach)?;
+    holds(read.pages as usize == lines().count(), Broken::Pages)?;
+    for (page, line) in with_line().zip(lines()) {
+        holds(line.starts_with(page.sent.identity()), Broken::InSlotOrder)?;
+        if page.all_read() {
+            holds(line == page.sent.line, Broken::Whole)?;
+        } else {
+            page.cut(line)?;
+        }
+    }
+    holds(read.orphans as usize == pages.iter().map(Received::orphans).sum(), Broken::Orphans)
+}
+
+fn holds(fact: bool, otherwise: Broken) -> Result<(), Broken> {
+    fact.then_some(()).ok_or(otherwise)
+}
+
+/// At most two flips: the word is read as it was sent.
+fn is_read(flips: &u32) -> bool {
+    *flips <= 2
+}
+
+impl Sent<'_> {
+    /// The six digits and the space behind them.
+    fn identity(&self) -> &[u8] {
+        &self.line[..7]
+    }
+
+    /// The digit of its kind.
+    fn kind(&self) -> u8 {
+        self.line[7]
+    }
+
+    /// The digit of a tone with its function.
+    fn tone(&self) -> u8 {
+        match self.kind() {
+            b'4' => b'0',
+            b'5' => b'3',
+            tone => tone,
+        }
+    }
+
+    /// Whether this begins the page's text: nothing, or the space and then pairs, at least one.
+    fn has_front(&self, text: &[u8]) -> bool {
+        let pairs = text.len() >= 3 && text.len() % 2 == 1;
+        text.is_empty() || pairs && self.line[8..].starts_with(text)
+    }
+}
+
+/// A page and the flips that matter to it.
+struct Received<'a> {
+    sent: &'a Sent<'a>,
+    /// Of its address and its message codewords.
+    own: &'a [u32],
+    /// Of the slot behind them; the last slot of all has none behind it.
+    next: Option<&'a u32>,
+}
+
+impl<'a> Received<'a> {
+    /// None if the page goes beyond the slots there are.
+    fn new(sent: &'a Sent, flips: &'a [u32]) -> Option<Self> {
+        let end = sent.slot + 1 + sent.message_words;
+        Some(Received { sent, own: flips.get(sent.slot..end)?, next: flips.get(end) })
+    }
+
+    fn address_read(&self) -> bool {
+        is_read(&self.own[0])
+    }
+
+    fn all_read(&self) -> bool {
+        self.own.iter().chain(self.next).all(is_read)
+    }
+
+    /// Whether any message word was read before the first that is lost.
+    fn any_message_read(&self) -> bool {
+        self.own.get(1).is_some_and(is_read)
+    }
+
+    /// How many message words were read behind its first lost word.
+    fn orphans(&self) -> usize {
+        self.own.iter().skip_while(|flips| is_read(flips)).filter(|flips| is_read(flips)).count()
+    }
+
+    /// What a cut page's line has behind its identity.
+    fn cut(&self, line: &[u8]) -> Result<(), Broken> {
+        let Some([kind, text @ ..]) = line[7..].strip_suffix(b"-\n") else { return Err(Broken::Cut) };
+        if self.any_message_read() {
+            holds(*kind == self.sent.kind(), Broken::Kind)?;
+            holds(self.sent.has_front(text), Broken::Text)
+        } else {
+            // a tone has no text
+            holds(*kind == self.sent.tone(), Broken::Kind)?;
+            holds(text.is_empty(), Broken::Text)
+        }
+    }
+}
+
+#[cfg(test)]
+mod tests {
+    use super::*;
+    use crate::reader::log_of_words;
+    use crate::send::Accepted;
+
+    /// Its addresses are in slots 9, 0, 3, 4, 14, 15 and 12.
+    const JOB: &[u8] =
+        b"000004 4 3132\n000000 4 313233343536\n000001 2\n000002 5 4142434445464748\n000007 0\n00000F 3\n000006 5 41\n";
+    /// The end of a message, the start of one, the slot behind one, and the last address.
+    const LOST: [usize; 4] = [2, 5, 11, 15];
+    const LINES: &str = "000000 4 3132333435-\n000001 2\n000002 3-\n000004 4 3132-\n000006 5 41\n000007 0-\n";
+
+    fn lose(words: &mut [u32]) {
+        for (slot, word) in words[1..].iter_mut().enumerate() {
+            *word ^= [0, 1 << 31, 0x0001_0001][slot % 3];
+        }
+        for slot in LOST {
+            words[1 + slot] = crate::codeword::correct(words[1 + slot]).unwrap() ^ 0x8000_0101;
+        }
+    }
+
+    /// The reported slots, the flips of each slot, and what is read.
+    fn day() -> (Vec<u32>, Vec<u32>, Log) {
+        let accepted = Accepted::new(JOB).unwrap();
+        let batches = accepted.words().split_off(18);
+        let mut received = batches.clone();
+        lose(&mut received);
+        (accepted.placement.slots, flips(&batches, &received), log_of_words(&received).unwrap())
+    }
+
+    /// What is said of a reading that is the true one but for a change.
+    fn judged(change: impl FnOnce(&mut Log)) -> Result<(), Broken> {
+        let (slots, flips, mut log) = day();
+        assert_eq!(log, Log { lines: LINES.into(), pages: 6, lost: 4, orphans: 2 });
+        change(&mut log);
+        judge(&sent(JOB, &slots), &flips, &log)
+    }
+
+    /// The same where a part of the lines, which is there once, is replaced, and the lines are counted rightly.
+    fn with(part: &str, by: &str) -> Result<(), Broken> {
+        assert_eq!(LINES.matches(part).count(), 1, "{part}");
+        assert_ne!(part, by);
+        judged(|log| {
+            log.lines = LINES.replace(part, by).into();
+            log.pages = log.lines.split_inclusive(|&byte| byte == b'\n').count() as u32;
+        })
+    }
+
+    #[test]
+    fn lines_for_pages() {
+        assert_eq!(judged(|_| ()), Ok(()));
+        // one missing, doubled, added; one for the page whose address is lost
+        assert_eq!(with("000001 2\n", ""), Err(Broken::OneLineEach));
+        assert_eq!(with("000002 3-\n", ""), Err(Broken::OneLineEach));
+        assert_eq!(with("000001 2\n", "000001 2\n000001 2\n"), Err(Broken::OneLineEach));
+        assert_eq!(with("000006 5 41\n", "000005 1\n000006 5 41\n"), Err(Broken::OneLineEach));
+        assert_eq!(with("000007 0-\n", "000007 0-\n00000F 3\n"), Err(Broken::OneLineEach));
+        // as many lines, but two swapped, or one doubled or false in another's place
+        assert_eq!(with("000001 2\n000002 3-\n", "000002 3-\n000001 2\n"), Err(Broken::InSlotOrder));
+        assert_eq!(with("000002 3-\n", "000001 2\n"), Err(Broken::InSlotOrder));
+        assert_eq!(with("000007 0-\n", "00000F 3\n"), Err(Broken::InSlotOrder));
+        // another identity
+        assert_eq!(with("000001 2", "000009 2"), Err(Broken::InSlotOrder));
+        assert_eq!(with("000000 4", "000008 4"), Err(Broken::InSlotOrder));
+    }
+
+    #[test]
+    fn whole_and_cut_lines() {
+        assert_eq!(with("000001 2\n", "000001 2-\n"), Err(Broken::Whole));
+        assert_eq!(with("5 41\n", "5 41-\n"), Err(Broken::Whole));
+        assert_eq!(with("5 41\n", "5 42\n"), Err(Broken::Whole));
+        assert_eq!(with("5 41\n", "5 4142\n"), Err(Broken::Whole));
+        assert_eq!(with("5 41\n", "5\n"), Err(Broken::Whole));
+        assert_eq!(with("000001 2\n", "000001 1\n"), Err(Broken::Whole));
+        assert_eq!(with("3132333435-", "3132333435"), Err(Broken::Cut));
+        assert_eq!(with("3132333435-", "313233343536"), Err(Broken::Cut));
+        assert_eq!(with("3132333435-", "-3132333435"), Err(Broken::Cut));
+        // nothing but the next slot is lost
+        assert_eq!(with(" 3132-\n", " 3132\n"), Err(Broken::Cut));
+        assert_eq!(with("000007 0-\n", "000007 0\n"), Err(Broken::Cut));
+        assert_eq!(with("000007 0-\n", "000007 0-"), Err(Broken::Cut));
+    }
+
+    #[test]
+    fn kind_and_text_of_cut_lines() {
+        // no message word read
+        assert_eq!(with("000002 3-", "000002 5-"), Err(Broken::Kind));
+        assert_eq!(with("000002 3-", "000002 0-"), Err(Broken::Kind));
+        assert_eq!(with("000002 3-", "000002 3 41-"), Err(Broken::Text));
+        assert_eq!(with("000007 0-", "000007 4-"), Err(Broken::Kind));
+        // some read
+        assert_eq!(with("000000 4 3132333435-", "000000 0-"), Err(Broken::Kind));
+        assert_eq!(with("000000 4", "000000 5"), Err(Broken::Kind));
+        assert_eq!(with("3132333435-", "3132333436-"), Err(Broken::Text));
+        assert_eq!(with("3132333435-", "3232333435-"), Err(Broken::Text));
+        assert_eq!(with("3132333435-", "31323334353637-"), Err(Broken::Text));
+        assert_eq!(with("3132333435-", "313233343-"), Err(Broken::Text));
+        assert_eq!(with("000000 4 3132333435-", "000000 4 -"), Err(Broken::Text));
+        // R-9 leaves it free how much of the text is there
+        for text in ["", " 31", " 3132", " 313233343536"] {
+            assert_eq!(with("000000 4 3132333435-", &format!("000000 4{text}-")), Ok(()));
+        }
+    }
+
+    #[test]
+    fn counts() {
+        for (lost, orphans, pages, broken) in [(1, 0, 0, Broken::Lost), (0, 1, 0, Broken::Orphans), (0, 0, 1, Broken::Pages)] {
+            let more =
+                |log: &mut Log| (log.lost, log.orphans, log.pages) = (log.lost + lost, log.orphans + orphans, log.pages + pages);
+            let fewer =
+                |log: &mut Log| (log.lost, log.orphans, log.pages) = (log.lost - lost, log.orphans - orphans, log.pages - pages);
+            assert_eq!(judged(more), Err(broken));
+            assert_eq!(judged(fewer), Err(broken));
+        }
+    }
+
+    #[test]
+    fn slots_beyond_the_batches() {
+        let (mut slots, flips, log) = day();
+        for slot in [16, 15, 14, u32::MAX] {
+            slots[1] = slot;
+            assert_eq!(judge(&sent(JOB, &slots), &flips, &log), Err(Broken::Slots));
+        }
+    }
+}

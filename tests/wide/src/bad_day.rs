@@ -1,0 +1,173 @@
+//! A bad day: the transmission of a job is damaged, by at most three flipped bits in a slot's word and two in a sync, and
+//! what the library reads of it is judged.
+
+use crate::compare::{shown, Comparison, Difference, Outcome};
+use crate::lent::Unit;
+use generate::words::{damage, Damage, BATCH};
+use generate::{listings, Random};
+use independent::judge::{self, Sent};
+use independent::placement::PREAMBLE_WORDS;
+use independent::reader::Log;
+
+/// One slot word in so many has three flips: from heavy damage to days on which most of the longest messages are whole.
+const RATES: &[usize] = &[2, 5, 20, 100, 500];
+
+/// Jobs of one batch, for every set of lost slots.
+const SHORT: [&[u8]; 2] = [
+    // in slot order: a numeric page whose first message word is spaces, a tone in its pause, directly behind that an alphanumeric
+    // page, an idle pause and directly behind it a numeric page, and a tone in each of the last two slots
+    b"00000F 2\n00000C 4 3132\n00000A 5 4142434445464748\n000017 3\n000009 1\n000008 4 202020202031\n",
+    // a message up to the last slot but one, and in its pause, the last slot, a tone
+    b"000003 5 4142434445464748494A4B4C4D4E4F505152535455\n000007 0\n",
+];
+
+/// Jobs of two batches, for many sets of lost slots.
+const LONGER: [&[u8]; 3] = [
+    // a message that runs on behind a sync, and a tone in its pause
+    b"000007 4 31323334353637\n000000 1\n000008 2\n000010 3\n",
+    // messages that end in the last slot: a batch of idles follows
+    b"00000F 4 31\n",
+    b"000000 5 4142434445464748494A4B4C4D4E4F505152535455565758595A6162636465666768696A6B6C6D6E6F70\n",
+];
+
+/// A job as the library sent it.
+struct Transmission<'a> {
+    job: &'a [u8],
+    pages: Vec<Sent<'a>>,
+    /// The words behind the preamble.
+    batches: Vec<u32>,
+}
+
+impl<'a> Transmission<'a> {
+    fn new(job: &'a [u8]) -> Result<Self, Difference> {
+        let (mut words, mut slots) = (vec![0; card::WORDS], vec![0; card::PAGES]);
+        let report = card::send(job, &mut words, &mut slots);
+        if report.number != 0 {
+            return Err(Difference(format!("bad day: sending answers {report:?}\njob:\n{}", shown(job))));
+        }
+        words.truncate(report.words as usize);
+        Ok(Transmission { job, pages: judge::sent(job, &slots), batches: words.split_off(PREAMBLE_WORDS) })
+    }
+
+    /// What the library reads of the received words must be as R-9 has it.
+    fn judged(&self, received: &[u32], read: impl FnOnce(&mut [u8]) -> card::Reading) -> Outcome {
+        // no line is longer than its page's own and a `-`
+        let mut out = vec![0; self.job.len() + self.pages.len()];
+        let reading = read(&mut out);
+        if reading.number != 0 {
+            return Err(self.wrong(received, &format!("reading answers {reading:?}")));
+        }
+        out.truncate(reading.bytes);
+        let log = Log { lines: out, pages: reading.pages, lost: reading.lost, orphans: reading.orphans };
+        judge::judge(&self.pages, &judge::flips(&self.batches, received), &log).map_err(|broken| {
+            let what = format!("R-9 is broken: {broken:?}\n{reading:?}\nlines:\n{}", shown(&log.lines));
+            self.wrong(received, &what)
+        })
+    }
+
+    fn wrong(&self, received: &[u32], what: &str) -> Difference {
+        let words = self.batches.iter().zip(received).enumerate();
+        let shown_word = |(i, (sent, received)): (usize, (&u32, &u32))| match i % BATCH {
+            0 => format!("sync {sent:08X} {received:08X}\n"),
+            _ => format!("slot {} {sent:08X} {received:08X}, {} flips\n", i - i / BATCH - 1, (sent ^ received).count_ones()),
+        };
+        let words: String = words.map(shown_word).collect();
+        Difference(format!("bad day: {what}\njob:\n{}\nwords sent and received:\n{words}", shown(self.job)))
+    }
+}
+
+impl Comparison {
+    /// A good job, and damage at random.
+    pub fn bad_day(&mut self, job: &[u8]) -> Outcome {
+        self.random_damage(&Transmission::new(job)?)
+    }
+
+    /// Short jobs with every set of lost slots, longer ones with many.
+    pub fn bad_day_limits(&mut self) -> Outcome {
+        for job in SHORT {
+            self.job(job)?;
+            let transmission = Transmission::new(job)?;
+            for lost in 0..1 << 16 {
+                let mut received = transmission.batches.clone();
+                lose(&mut self.random, &mut received, lost);
+                self.damaged(&transmission, &received)?;
+            }
+        }
+        for job in LONGER {
+            self.job(job)?;
+            let transmission = Transmission::new(job)?;
+            for _ in 0..3000 {
+                self.random_damage(&transmission)?;
+            }
+        }
+        Ok(())
+    }
+
+    fn random_damage(&mut self, transmission: &Transmission) -> Outcome {
+        let mut received = transmission.batches.clone();
+        let rate = self.random.pick(RATES);
+        damage(&mut self.random, &mut received, Damage::Three(rate));
+        self.damaged(transmission, &received)
+    }
+
+    /// The damaged words one by one, together, and as a listing behind any preamble.
+    fn damaged(&mut self, transmission: &Transmission, received: &[u32]) -> Outcome {
+        for (&sent, &word) in transmission.batches.iter().zip(received) {
+            let answer = card::correct(word);
+            let lost = (sent ^ word).count_ones() == 3;
+            let right = if lost { answer.number == 20 } else { answer == card::Word { word: sent, number: 0 } };
+            if !right {
+                let what = format!("{word:08X} for {sent:08X} is answered {:08X}, number {}", answer.word, answer.number);
+                return Err(transmission.wrong(received, &what));
+            }
+        }
+        self.count("bad day, each word", 0);
+        transmission.judged(received, |out| card::read_words(received, out))?;
+        self.count("bad day, words", 0);
+        let listing = listings::of_words(&u32::rubbish(&mut self.random, PREAMBLE_WORDS), received);
+        transmission.judged(received, |out| card::read_listing(&listing, out))?;
+        self.count("bad day, listing", 0);
+        Ok(())
+    }
+}
+
+/// Three flips in the slots of a set, none to two in the other words of a batch.
+fn lose(random: &mut Random, batch: &mut [u32], lost: u32) {
+    for (i, word) in batch.iter_mut().enumerate() {
+        let flips = if lost << 1 >> i & 1 == 1 { 3 } else { random.below(3) as u32 };
+        *word ^= random.ones(flips);
+    }
+}
+
+#[cfg(test)]
+mod tests {
+    use super::*;
+    use independent::placement::Placement;
+    use independent::send::Accepted;
+
+    /// The address slots in job order, the number of batches, and the message words.
+    fn placed(job: &[u8]) -> (Vec<u32>, u32, Vec<usize>) {
+        let Accepted { pages, placement: Placement { slots, batches } } = Accepted::new(job).unwrap();
+        (slots, batches, pages.iter().map(|page| page.message_words()).collect())
+    }
+
+    #[test]
+    fn the_jobs_lie_as_they_should() {
+        assert_eq!(placed(SHORT[0]), (vec![14, 9, 4, 15, 3, 0], 1, vec![0, 1, 3, 0, 0, 2]));
+        assert_eq!(placed(SHORT[1]), (vec![6, 15], 1, vec![8, 0]));
+        assert_eq!(placed(LONGER[0]), (vec![14, 0, 1, 17], 2, vec![2, 0, 0, 0]));
+        assert_eq!(placed(LONGER[1]), (vec![14], 2, vec![1]));
+        assert_eq!(placed(LONGER[2]), (vec![0], 2, vec![15]));
+    }
+
+    #[test]
+    fn a_set_is_lost() {
+        let mut random = Random::new(1);
+        for lost in [0, 1, 0x8000, 0xFFFF, 0x1234] {
+            let mut batch = [0; BATCH];
+            lose(&mut random, &mut batch, lost);
+            assert!(batch[0].count_ones() <= 2);
+            assert!((0..16).all(|slot| (batch[1 + slot].count_ones() == 3) == (lost >> slot & 1 == 1)));
+        }
+    }
+}
