@@ -1,5 +1,5 @@
--- A word three bits away from a codeword is at most two bits away from none: if it were, flipping one of the three bits back would give
--- a word at most two bits away from both codewords. Assumes nothing.
+-- A word three bits away from a codeword is at most two bits away from none. By parity another codeword would be one bit away; flipping
+-- one of the three bits back would then give a word at most two bits away from both. Assumes nothing.
 use mathlib.Core.Path.{_≡_, refl, sym, ap, _∙_}
 use mathlib.Core.Logic.{⊎-elim}
 use Prim.Native.Nat.{ℕ, zero, suc, _+_, _*_, _/_, _%_, _^_, _≤_, _<_}
