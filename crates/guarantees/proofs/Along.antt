@@ -1,4 +1,4 @@
--- What is heard along all slots, whichever of their words are lost: the one induction over the slots. Assumes nothing.
+-- What is heard along all slots, whichever of their words are lost: the one induction of reading over the slots. Assumes nothing.
 use mathlib.Core.Path.{_≡_, refl, ap, _∙_}
 use mathlib.Core.Bool.{Bool, false, cond}
 use mathlib.Core.List.{List}
@@ -38,7 +38,7 @@ module _ (lost : ℕ → Bool) (xs : List Sending) (framed : Framed (placementOf
       (record {
         pages =
             turned lost xs s (lost s) (stateAt job s) _ c (orderTo job s) (readAt word s) refl (once job framed s) (slot job s) (r .pages);
-        lost-are = lost-more lost xs s (lost s) c (readAt word s) ∙ ap (λ (m : ℕ). m + cond (lost s) 1 0) (r .lost-are);
+        lost-are = lost-more xs s (lost s) c (readAt word s) ∙ ap (λ (m : ℕ). m + cond (lost s) 1 0) (r .lost-are);
         orphans-are =
             orphans-more lost xs s (lost s) (stateAt job s) _ c (orderTo job s) (readAt word s) refl (slot job s) (r .pages)
             ∙ ap (λ (m : ℕ). m + cond (orphaned lost xs s c) 1 0) (r .orphans-are);

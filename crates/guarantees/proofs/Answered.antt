@@ -77,7 +77,7 @@ module _ (xs : List Sending) (a : AllAllowed xs) (most : ℕ) (words : List ℕ)
   of-batches : OfBatches words b
   of-batches =
       record {
-        size = size xs a most words rec;
+        size = size xs most words rec;
         some = batches-least a;
         few = sendings-limits a .most;
         small = λ k. ⊎-elim (λ l. rw (List·getD-eq-default words 0 {n = k} l) (omega arith)) (λ l. rec .fits k l) (le-or-lt (length words) k);

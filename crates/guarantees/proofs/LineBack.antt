@@ -128,31 +128,31 @@ some-groups Numeric bytes h = omega (arith, groups-length Numeric bytes)
 some-groups Alphanumeric bytes h = omega (arith, groups-length Alphanumeric bytes)
 
 -- what is known of a page by its sound line: a tone has no groups, and the text is heard from the groups
-pub record Texted (kind : ℕ) (bytes : List ℕ) : Type 0 where
+pub record HeardBack (kind : ℕ) (bytes : List ℕ) : Type 0 where
   pub known : kind ≤ 5
   pub tone : kind ≤ 3 → length (groupsIn (codingOf kind) bytes) ≡ 0
   pub back : heardText (codingOf kind) (groupsIn (codingOf kind) bytes) ≡ bytes
 
-texted : (l : List ℕ) → Sound l → Texted (kindOf l) (textOf l)
-texted l s =
+heard-back : (l : List ℕ) → Sound l → HeardBack (kindOf l) (textOf l)
+heard-back l s =
     record {
       known = s .known;
       tone = λ h. no-groups (codingOf (kindOf l)) (textOf l) (s .tone h);
       back = text-back (codingOf (kindOf l)) (textOf l) (s .chars) (s .unspaced);
     }
 
-pub page-texted : (s : List ℕ) (n : ℕ) → jobOf s ≡ Accepted n → (p : ℕ) → p < n → Texted (pageAt s p .kind) (pageAt s p .text)
-page-texted s n ok p h =
+pub page-back : (s : List ℕ) (n : ℕ) → jobOf s ≡ Accepted n → (p : ℕ) → p < n → HeardBack (pageAt s p .kind) (pageAt s p .text)
+page-back s n ok p h =
     let a = accepted-job s n ok in
     let r = a .page p h in
-    rw (r .kind-is, r .text-is) (texted (lineAt p (split s)) (a .sound p h))
+    rw (r .kind-is, r .text-is) (heard-back (lineAt p (split s)) (a .sound p h))
 
 -- ---- the line
 
 line-heard : (l : List ℕ) → Sound l → lineHeard (hearingOf (sendingFrom (identityOf l) (kindOf l) (textOf l))) ≡ l ++ (10 ∷ [])
 line-heard l s =
     let gs = groupsIn (codingOf (kindOf l)) (textOf l) in
-    let t = texted l s in
+    let t = heard-back l s in
     let h = shown (kindOf l) gs (t .known) (t .tone) in
     let kind : kindHeard (functionOf (kindOf l)) gs ≡ kindOf l =
     ⊎-elim

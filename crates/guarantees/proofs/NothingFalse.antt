@@ -21,13 +21,13 @@ use Rattle.reader.specs.declared.Reading.{Reading}
 use Rattle.guarantees.specs.Transport.{Received, isRead, hearingIn, heardBut}
 use Rattle.guarantees.specs.Demand2.{inSlotOrder}
 use Rattle.guarantees.specs.Demand3.{wordIn}
-use Rattle.guarantees.specs.NothingFalse.{slotCount, addressSlot, slotFlips, gone, Logged, GivesLog, NothingFalse, ThreeWrongBits}
+use Rattle.guarantees.specs.NothingFalse.{slotCount, addressSlot, slotFlips, slotLost, Logged, GivesLog, NothingFalse, ThreeWrongBits}
 use Rattle.guarantees.proofs.SoFar.{saidIn}
 use Rattle.guarantees.proofs.Received.{received-word, says-slot}
 use Rattle.guarantees.proofs.Transport.{heard-but}
 use Rattle.guarantees.proofs.Answered.{lines-are, GivesHeard, from-words, from-listing}
 use Rattle.guarantees.proofs.Counts.{page-count}
-use Rattle.guarantees.proofs.DamagedLine.{not-gone, few, lineRead, line-of}
+use Rattle.guarantees.proofs.DamagedLine.{not-lost, few, lineRead, line-of}
 use Rattle.guarantees.proofs.Reported.{reported}
 use Rattle.guarantees.proofs.Demand2.{ordered, front}
 
@@ -38,10 +38,10 @@ module _ (s : List ℕ) (n : ℕ) (ok : jobOf s ≡ Accepted n) (words : List �
   -- ---- the pages with a line: those whose address is read
 
   abbrev pages : List ℕ
-  pages = passing (isRead (gone s words) xs) (inSlotOrder s)
+  pages = passing (isRead (slotLost s words) xs) (inSlotOrder s)
 
-  within : Within (isRead (gone s words) xs) (inSlotOrder s) pages
-  within = passing-within (isRead (gone s words) xs) (inSlotOrder s)
+  within : Within (isRead (slotLost s words) xs) (inSlotOrder s) pages
+  within = passing-within (isRead (slotLost s words) xs) (inSlotOrder s)
 
   logged : Logged s n words pages
   logged =
@@ -52,7 +52,7 @@ module _ (s : List ℕ) (n : ℕ) (ok : jobOf s ≡ Accepted n) (words : List �
             (omega (arith, page-count s n ok), few s words (addressSlot s (getD pages k 0)) (sym (Bool·not-not _) ∙ ap not (within .passes k l)));
         every = λ i l f.
             let x = ordered s n ok .every i (omega (arith, page-count s n ok)) in
-            let y = within .every (x .0) (x .1) (rw (x .2) (ap not (not-gone s words (addressSlot s i) f))) in
+            let y = within .every (x .0) (x .1) (rw (x .2) (ap not (not-lost s words (addressSlot s i) f))) in
             (y .0, y .1, y .2 ∙ x .2);
         rising = λ k l h m.
             let k′ : k < length pages = omega arith in
@@ -62,23 +62,23 @@ module _ (s : List ℕ) (n : ℕ) (ok : jobOf s ≡ Accepted n) (words : List �
 
   -- ---- what is read
 
-  gives-log : (room : ℕ) (answer : Reading) (read : List ℕ) → GivesHeard (heardBut (gone s words) xs) room answer read
-      → GivesLog s words (lineRead s words) pages room answer read
+  gives-log : (room : ℕ) (answer : Reading) (behind : List ℕ) → GivesHeard (heardBut (slotLost s words) xs) room answer behind
+      → GivesLog s words (lineRead s words) pages room answer behind
   unfolding heardBut
-  gives-log room answer read g =
-      rw (lines-are (hearingIn (gone s words) xs) (lineRead s words) pages (λ k l. refl), length-map pages (hearingIn (gone s words) xs)) at g
+  gives-log room answer behind g =
+      rw (lines-are (hearingIn (slotLost s words) xs) (lineRead s words) pages (λ k l. refl), length-map pages (hearingIn (slotLost s words) xs)) at g
 
   module _ (most : ℕ) (rec : Received most (transmissionOf xs) words) (three : most ≤ 3) where
     three-lost : (p : ℕ) → p < slotCount s → slotFlips s words p ≡ 3 → meaning (nearest (wordIn words p)) ≡ Lost
     three-lost p l e =
-        ap (λ (w : ℕ). meaning (nearest w)) (sym (received-word xs (accepted-sendings s n ok) most words rec p l))
-        ∙ says-slot xs (accepted-sendings s n ok) most words rec p l three
+        ap (λ (w : ℕ). meaning (nearest w)) (sym (received-word words p))
+        ∙ says-slot xs most words rec p l (accepted-sendings s n ok) three
         ∙ ap (λ (b : Bool). saidIn b xs (contentAt (placementOf xs) p)) (lt-ltb 2 (slotFlips s words p) (omega arith))
 
     all-true : NothingFalse s n words
     all-true =
         let a = accepted-sendings s n ok in
-        let h = heardBut (gone s words) xs in
+        let h = heardBut (slotLost s words) xs in
         let t = heard-but xs a most three words rec in
         record {
           lost = three-lost;

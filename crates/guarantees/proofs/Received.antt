@@ -31,7 +31,14 @@ no-flips : (sent words : List ℕ) → length words ≡ length sent → (k : ℕ
 no-flips sent words e k h =
     rw (List·getD-eq-default words 0 {n = k} h, List·getD-eq-default sent 0 {n = k} (omega arith)) (distance-self 0)
 
-module _ (xs : List Sending) (a : AllAllowed xs) (most : ℕ) (words : List ℕ) (rec : Received most (transmissionOf xs) words) where
+-- the word of slot s in the batches behind the preamble
+pub received-word : (words : List ℕ) (s : ℕ) → slotWord (drop 18 words) s ≡ getD words (slotIndex s) 0
+received-word words s =
+    let k = 17 * (s / 16) + 1 + s % 16 in
+    let same : 18 + k ≡ slotIndex s = omega arith in
+    getD-drop 18 words k 0 ∙ ap (λ (m : ℕ). getD words m 0) same
+
+module _ (xs : List Sending) (most : ℕ) (words : List ℕ) (rec : Received most (transmissionOf xs) words) where
   pub size : length words ≡ wordCount (placementOf xs)
   size = rec .whole ∙ transmission-length (codewordsOf xs) (placementOf xs)
 
@@ -45,40 +52,6 @@ module _ (xs : List Sending) (a : AllAllowed xs) (most : ℕ) (words : List ℕ)
   few-flips s =
       ⊎-elim (λ h. omega (arith, outside s h)) (λ h. rec .slots s (omega (arith, size))) (le-or-lt (16 * batches (placementOf xs)) s)
 
-  -- ---- the word of a slot, and the one that was sent
-
-  module _ (s : ℕ) (l : s < 16 * batches (placementOf xs)) where
-    abbrev c : Content
-    c = contentAt (placementOf xs) s
-
-    pub received-word : slotWord (drop 18 words) s ≡ getD words (slotIndex s) 0
-    received-word =
-        let k = 17 * (s / 16) + 1 + s % 16 in
-        let same : 18 + k ≡ slotIndex s = omega arith in
-        getD-drop 18 words k 0 ∙ ap (λ (m : ℕ). getD words m 0) same
-
-    sent-word : getD (transmissionOf xs) (slotIndex s) 0 ≡ codewordIn (codewordsOf xs) c
-    sent-word = transmission-at (codewordsOf xs) (placementOf xs) (slotIndex s) (omega arith) ∙ slot-word (codewordsOf xs) (placementOf xs) s
-
-    word-fits : slotWord (drop 18 words) s < 2 ^ 32
-    word-fits = rw received-word (rec .fits (slotIndex s) (omega (arith, size)))
-
-    word-flips : distance (slotWord (drop 18 words) s) (codewordIn (codewordsOf xs) c) ≡ flipCount (transmissionOf xs) words (slotIndex s)
-    word-flips = rw (received-word, sent-word)
-
-    pub says-slot : most ≤ 3 → meaning (nearest (slotWord (drop 18 words) s)) ≡ saidIn (lostAt (transmissionOf xs) words s) xs c
-    says-slot m = go (lostAt (transmissionOf xs) words s) refl
-      where
-        go : (b : Bool) → lostAt (transmissionOf xs) words s ≡ b → meaning (nearest (slotWord (drop 18 words) s)) ≡ saidIn b xs c
-        go true e =
-            let three : distance (slotWord (drop 18 words) s) (codewordIn (codewordsOf xs) c) ≡ 3 =
-            omega (arith, word-flips, few-flips s, ltb-true 2 (flipCount (transmissionOf xs) words (slotIndex s)) e) in
-            ap meaning (refused xs c (slotWord (drop 18 words) s) word-fits three)
-        go false e =
-            let near : distance (slotWord (drop 18 words) s) (codewordIn (codewordsOf xs) c) ≤ 2 =
-            omega (arith, word-flips, ltb-false 2 (flipCount (transmissionOf xs) words (slotIndex s)) e) in
-            ap meaning (corrected xs c (slotWord (drop 18 words) s) word-fits near) ∙ says a s c (sendings-placed a .only s)
-
   -- ---- the syncs
 
   says-sync : (q : ℕ) → q < batches (placementOf xs) → nearest (getD (drop 18 words) (17 * q) 0) ≡ some sync
@@ -91,10 +64,38 @@ module _ (xs : List Sending) (a : AllAllowed xs) (most : ℕ) (words : List ℕ)
       ∙ ap (wordAt (codewordsOf xs) (placementOf xs)) same
       ∙ word-in (codewordsOf xs) (placementOf xs) q 0 (omega arith) in
       rw (getD-drop 18 words (17 * q) 0)
-      (sync-corrected (getD words (18 + 17 * q) 0) (rec .fits (18 + 17 * q) inside) (rw (← sent) (rec .syncs q inside)))
+      (sync-corrected (getD words (18 + 17 * q) 0) (rec .fits (18 + 17 * q) inside) (rw (← sent) (omega (arith, rec .syncs q inside))))
 
   pub all-synced : (q : ℕ) → q < batches (placementOf xs) → unsynced (drop 18 words) q ≡ false
   all-synced q l = rw (says-sync q l)
+
+  -- ---- the word of a slot, and the one that was sent
+
+  module _ (s : ℕ) (l : s < 16 * batches (placementOf xs)) where
+    abbrev c : Content
+    c = contentAt (placementOf xs) s
+
+    sent-word : getD (transmissionOf xs) (slotIndex s) 0 ≡ codewordIn (codewordsOf xs) c
+    sent-word = transmission-at (codewordsOf xs) (placementOf xs) (slotIndex s) (omega arith) ∙ slot-word (codewordsOf xs) (placementOf xs) s
+
+    word-fits : slotWord (drop 18 words) s < 2 ^ 32
+    word-fits = rw (received-word words s) (rec .fits (slotIndex s) (omega (arith, size)))
+
+    word-flips : distance (slotWord (drop 18 words) s) (codewordIn (codewordsOf xs) c) ≡ flipCount (transmissionOf xs) words (slotIndex s)
+    word-flips = rw (received-word words s, sent-word)
+
+    pub says-slot : AllAllowed xs → most ≤ 3 → meaning (nearest (slotWord (drop 18 words) s)) ≡ saidIn (lostAt (transmissionOf xs) words s) xs c
+    says-slot a m = go (lostAt (transmissionOf xs) words s) refl
+      where
+        go : (b : Bool) → lostAt (transmissionOf xs) words s ≡ b → meaning (nearest (slotWord (drop 18 words) s)) ≡ saidIn b xs c
+        go true e =
+            let three : distance (slotWord (drop 18 words) s) (codewordIn (codewordsOf xs) c) ≡ 3 =
+            omega (arith, word-flips, few-flips s, ltb-true 2 (flipCount (transmissionOf xs) words (slotIndex s)) e) in
+            ap meaning (refused xs c (slotWord (drop 18 words) s) word-fits three)
+        go false e =
+            let near : distance (slotWord (drop 18 words) s) (codewordIn (codewordsOf xs) c) ≤ 2 =
+            omega (arith, word-flips, ltb-false 2 (flipCount (transmissionOf xs) words (slotIndex s)) e) in
+            ap meaning (corrected xs c (slotWord (drop 18 words) s) word-fits near) ∙ says a s c (sendings-placed a .only s)
 
 -- the words as they were sent are received words
 pub clean : (xs : List Sending) → Received 2 (transmissionOf xs) (transmissionOf xs)

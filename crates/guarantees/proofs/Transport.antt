@@ -2,7 +2,7 @@
 use mathlib.Core.Path.{_≡_, refl, ap, _∙_, fun-ext}
 use mathlib.Core.Bool.{Bool, false, not, cond}
 use mathlib.Core.List.{List}
-use Prim.Native.Nat.{ℕ, _+_, _*_, _/_}
+use Prim.Native.Nat.{ℕ, _+_, _-_, _*_, _/_}
 use native.Mathlib.Omega.{arith}
 use lib.ListN.{length, drop}
 use lib.Seq.{take-all}
@@ -17,43 +17,43 @@ use Rattle.transmission.specs.Transmitted.{slotIndex}
 use Rattle.transmission.proofs.Sendings.{words-at, sendable, sendings-placed}
 use Rattle.reader.specs.Reading.{slotWord, heardIn}
 use Rattle.guarantees.specs.Order.{order}
-use Rattle.guarantees.specs.Transport.{flipCount, lostAt, isRead, readBehind, hearingIn, orphaned, heardBut, Transport, hearingOf, asSent, WholeTransport}
+use Rattle.guarantees.specs.Transport.{flipCount, lostAt, isRead, reach, hearingIn, orphaned, heardBut, Transport, hearingOf, asSent, WholeTransport}
 use Rattle.guarantees.proofs.Received.{behind-size, outside, few-flips, says-slot, all-synced}
 use Rattle.guarantees.proofs.Along.{heard-along}
 
--- all but what is lost is heard, with up to three flips in a codeword
+-- each page whose address is read is heard up to its first lost word, with up to three flips in a codeword
 pub heard-but : Transport
 unfolding heardIn
 heard-but xs a most few words rec =
     let lost = lostAt (transmissionOf xs) words in
-    let size : 16 * (length (drop 18 words) / 17) ≡ 16 * batches (placementOf xs) = omega (arith, behind-size xs a most words rec) in
+    let size : 16 * (length (drop 18 words) / 17) ≡ 16 * batches (placementOf xs) = omega (arith, behind-size xs most words rec) in
     let n = 16 * (length (drop 18 words) / 17) in
     record {
-      whole = behind-size xs a most words rec;
-      synced = all-synced xs a most words rec;
+      whole = behind-size xs most words rec;
+      synced = all-synced xs most words rec;
       heard =
-          heard-along lost xs (sendable a .framed) (slotWord (drop 18 words)) n (λ s l. says-slot xs a most words rec s (omega arith) few) size
-          (le-ltb 2 (flipCount (transmissionOf xs) words (slotIndex n)) (omega (arith, outside xs a most words rec n (omega arith))));
+          heard-along lost xs (sendable a .framed) (slotWord (drop 18 words)) n (λ s l. says-slot xs most words rec s (omega arith) a few) size
+          (le-ltb 2 (flipCount (transmissionOf xs) words (slotIndex n)) (omega (arith, outside xs most words rec n (omega arith))));
     }
 
 -- ---- where no word is lost
 
 module _ (xs : List Sending) (a : AllAllowed xs) (lost : ℕ → Bool) (none : (s : ℕ) → lost s ≡ false) where
-  all-behind : (i : ℕ) → readBehind lost xs i ≡ length (sendingAt xs i .groups) + 1
-  all-behind i =
+  all-read : (i : ℕ) → reach lost xs i ≡ length (sendingAt xs i .groups) + 2
+  all-read i =
       let n = length (sendingAt xs i .groups) in
-      least-only _ (n + 1) (n + 1) (record { within = omega arith; before = λ k l. none _; here = λ l. absurd (omega arith) })
+      least-only _ (n + 2) (n + 2) (record { within = omega arith; before = λ k l. none _; here = λ l. absurd (omega arith) })
 
   as-it-was : (i : ℕ) → hearingIn lost xs i ≡ hearingOf (sendingAt xs i)
   as-it-was i =
       let n = length (sendingAt xs i .groups) in
-      rw (all-behind i, take-all (n + 1) (sendingAt xs i .groups) (omega arith), lt-leb (n + 1) n (omega arith))
+      rw (all-read i, take-all (n + 2 - 1) (sendingAt xs i .groups) (omega arith), le-ltb (n + 2) (n + 2) (omega arith))
 
   no-orphan : (s : ℕ) (c : Content) → Holds (placementOf xs) s c → orphaned lost xs s c ≡ false
   no-orphan s c nothing = refl
   no-orphan s c (itsAddress i l q) = refl
   no-orphan s c (itsMessage i j l m q) =
-      rw (none s, none _, all-behind i) (le-ltb (length (sendingAt xs i .groups) + 1) j (omega (arith, words-at xs i)))
+      rw (none s, all-read i) (lt-leb (length (sendingAt xs i .groups) + 2) j (omega (arith, words-at xs i)))
 
   none-lost : heardBut lost xs ≡ asSent xs
   unfolding heardBut asSent
@@ -78,5 +78,5 @@ heard-as-sent xs a most few words rec =
       heard =
           t .heard
           ∙ none-lost xs a (lostAt (transmissionOf xs) words)
-          (λ s. le-ltb 2 (flipCount (transmissionOf xs) words (slotIndex s)) (omega (arith, few-flips xs a most words rec s)));
+          (λ s. le-ltb 2 (flipCount (transmissionOf xs) words (slotIndex s)) (omega (arith, few-flips xs most words rec s)));
     }

@@ -49,12 +49,13 @@ abbrev pub slotFlips : List ℕ → List ℕ → ℕ → ℕ
 slotFlips s words p = flipCount (transmissionOf (sendingsOf s)) words (slotIndex p)
 
 -- slot p's word is lost: it has more than two flips
-abbrev pub gone : List ℕ → List ℕ → ℕ → Bool
-gone s words = lostAt (transmissionOf (sendingsOf s)) words
+abbrev pub slotLost : List ℕ → List ℕ → ℕ → Bool
+slotLost s words = lostAt (transmissionOf (sendingsOf s)) words
 
--- page i's codewords, and the next slot's, if any, have at most two flips each
-abbrev pub Undamaged : List ℕ → List ℕ → ℕ → Type 0
-Undamaged s words i = (j : ℕ) → j ≤ count s i + 1 → addressSlot s i + j < slotCount s → slotFlips s words (addressSlot s i + j) ≤ 2
+-- page i's codewords have at most two flips each, and so has the next slot's, if any
+pub record Undamaged (s words : List ℕ) (i : ℕ) : Type 0 where
+  pub codewords : (j : ℕ) → j ≤ count s i → slotFlips s words (addressSlot s i + j) ≤ 2
+  pub next : addressSlot s i + count s i + 1 < slotCount s → slotFlips s words (addressSlot s i + count s i + 1) ≤ 2
 
 -- ---- the line of a page whose address has at most two flips
 
@@ -65,12 +66,12 @@ hasDash (b ∷ line) = eqb b 45 || hasDash line
 
 -- a line of page i that is cut short
 pub record Cut (s words : List ℕ) (i : ℕ) (line : List ℕ) : Type 0 where
-  -- so many of its message words are read, and the next slot's word, a message word or the one behind the message, has three flips
+  -- so many of its message words are read, and the word behind these, one of its message or the next slot's, has three flips
   pub read : ℕ
   pub within : read ≤ count s i
   pub before : (j : ℕ) → j ≤ read → slotFlips s words (addressSlot s i + j) ≤ 2
-  pub inside : addressSlot s i + 1 + read < slotCount s
-  pub broken : slotFlips s words (addressSlot s i + 1 + read) ≡ 3
+  pub inside : addressSlot s i + read + 1 < slotCount s
+  pub broken : slotFlips s words (addressSlot s i + read + 1) ≡ 3
   -- the line has the page's identity, a kind, a text, and `-`
   pub kind : ℕ
   pub text : List ℕ
@@ -98,12 +99,12 @@ pub record Logged (s : List ℕ) (n : ℕ) (words ps : List ℕ) : Type 0 where
   pub every : (i : ℕ) → i < n → slotFlips s words (addressSlot s i) ≤ 2 → (k : ℕ) × (k < length ps) × (getD ps k 0 ≡ i)
   pub rising : (k l : ℕ) → k < l → l < length ps → addressSlot s (getD ps k 0) < addressSlot s (getD ps l 0)
 
--- an answer to reading `read` that gives the lines of these pages; the lost words are those with more than two flips, and the orphans
--- the message words with fewer behind a lost word of their page
+-- an answer to reading the words behind the preamble that gives the lines of these pages, one after the other; lost are the words with
+-- more than two flips, and orphans the message words with at most two behind a lost word of their page
 abbrev pub GivesLog : List ℕ → List ℕ → (ℕ → List ℕ) → List ℕ → ℕ → Reading → List ℕ → Type 0
-GivesLog s words line ps room answer read =
-    Gives (flatMap line ps) (length ps) (lostTo (gone s words) (slotCount s)) (orphansTo (gone s words) (sendingsOf s) (slotCount s))
-    room answer read
+GivesLog s words line ps room answer behind =
+    Gives (flatMap line ps) (length ps) (lostTo (slotLost s words) (slotCount s)) (orphansTo (slotLost s words) (sendingsOf s) (slotCount s))
+    room answer behind
 
 -- what reading these words gives of a job of n pages
 pub record NothingFalse (s : List ℕ) (n : ℕ) (words : List ℕ) : Type 0 where

@@ -1,8 +1,8 @@
 -- The transport's half of demand 2 and of R-9: what is heard of a transmission with flipped bits. It knows nothing of lines and texts.
 use mathlib.Core.Path.{_≡_}
-use mathlib.Core.Bool.{Bool, false, not, cond, _&&_, _||_}
+use mathlib.Core.Bool.{Bool, false, not, cond, _&&_}
 use mathlib.Core.List.{List, map}
-use Prim.Native.Nat.{ℕ, _+_, _*_, _^_, _≤_, _<_}
+use Prim.Native.Nat.{ℕ, _+_, _-_, _*_, _^_, _≤_, _<_}
 use lib.ListN.{length, getD, take, drop}
 use lib.Dec.{ltb, leb}
 use Rattle.base.specs.Passing.{passing}
@@ -34,27 +34,31 @@ pub record Received (most : ℕ) (sent words : List ℕ) : Type 0 where
 abbrev pub lostAt : List ℕ → List ℕ → ℕ → Bool
 lostAt sent words p = ltb 2 (flipCount sent words (slotIndex p))
 
--- ---- what is heard of sendings where the words of some slots, whichever they are, are lost
+-- ---- what is heard of sendings where the words of some slots are lost, whichever they are; behind the last slot nothing is
 
 -- the address of page i is read
 abbrev pub isRead : (ℕ → Bool) → List Sending → ℕ → Bool
 isRead lost xs i = not (lost (slotOf (placementOf xs) i))
 
--- how many slots behind it are read before the first lost one: at most those of its message, and the next
-abbrev pub readBehind : (ℕ → Bool) → List Sending → ℕ → ℕ
-readBehind lost xs i = least (λ j. lost (slotOf (placementOf xs) i + 1 + j)) (length (sendingAt xs i .groups) + 1)
+-- how many of page i's words are read before the first lost one: its address, those of its message, and the next slot's
+abbrev pub reach : (ℕ → Bool) → List Sending → ℕ → ℕ
+reach lost xs i = least (λ k. lost (slotOf (placementOf xs) i + k)) (length (sendingAt xs i .groups) + 2)
 
--- a sending of which m slots behind the address are read: so many groups; and cut short unless the slot behind its message is read too
+-- a sending of which m words are read, the address first: so many groups, and cut short unless the next slot's word is among them
 abbrev pub heardUpTo : Sending → ℕ → Hearing
-heardUpTo x m = record { identity = x .identity; function = x .function; groups = take m (x .groups); cut = leb m (length (x .groups)) }
+heardUpTo x m = record { identity = x .identity; function = x .function; groups = take (m - 1) (x .groups); cut = ltb m (length (x .groups) + 2) }
 
 -- page i, where its address is read
 abbrev pub hearingIn : (ℕ → Bool) → List Sending → ℕ → Hearing
-hearingIn lost xs i = heardUpTo (sendingAt xs i) (readBehind lost xs i)
+hearingIn lost xs i = heardUpTo (sendingAt xs i) (reach lost xs i)
+
+-- of these pages, those whose address is read, each as far as it is read
+abbrev pub heardOf : (ℕ → Bool) → List Sending → List ℕ → List Hearing
+heardOf lost xs pages = map (hearingIn lost xs) (passing (isRead lost xs) pages)
 
 -- a word of page i before its message word j is lost
 abbrev pub spoilt : (ℕ → Bool) → List Sending → ℕ → ℕ → Bool
-spoilt lost xs i j = lost (slotOf (placementOf xs) i) || ltb (readBehind lost xs i) j
+spoilt lost xs i j = leb (reach lost xs i) j
 
 -- what slot p holds is an orphan: a message word that is not lost itself, behind a word of its page that is
 abbrev pub orphaned : (ℕ → Bool) → List Sending → ℕ → Content → Bool
@@ -69,10 +73,10 @@ lostTo lost s = sum (λ p. cond (lost p) 1 0) s
 abbrev pub orphansTo : (ℕ → Bool) → List Sending → ℕ → ℕ
 orphansTo lost xs s = sum (λ p. cond (orphaned lost xs p (contentAt (placementOf xs) p)) 1 0) s
 
--- the pages whose address is read, in the order of their slots, each as far as it is read; the lost words and the orphans
+-- the pages in the order of their slots; the lost words and the orphans
 unfoldable pub heardBut : (ℕ → Bool) → List Sending → Heard
 heardBut lost xs = record {
-  pages = map (hearingIn lost xs) (passing (isRead lost xs) (order (placementOf xs)));
+  pages = heardOf lost xs (order (placementOf xs));
   lost = lostTo lost (16 * batches (placementOf xs));
   orphans = orphansTo lost xs (16 * batches (placementOf xs));
 }
@@ -84,8 +88,8 @@ pub record HeardAs (xs : List Sending) (h : Heard) (words : List ℕ) : Type 0 w
   pub synced : (q : ℕ) → q < batches (placementOf xs) → unsynced (drop 18 words) q ≡ false
   pub heard : heardIn (drop 18 words) ≡ h
 
--- with up to three flips in each frame codeword all of an accepted job's sendings is heard but what is lost: `heard-but` in
--- proofs/Transport.antt proves it
+-- with up to three flips in each frame codeword the sendings of an accepted job are heard so, each up to its first lost word:
+-- `heard-but` in proofs/Transport.antt proves it
 abbrev pub Transport : Type 0
 Transport =
     (xs : List Sending) → AllAllowed xs → (most : ℕ) → most ≤ 3 → (words : List ℕ) → Received most (transmissionOf xs) words
