@@ -33,7 +33,7 @@ pub fn flips(sent: &[u32], received: &[u32]) -> Vec<u32> {
 pub enum Broken {
     /// The pages lie within the batches, by their reported slots.
     Slots,
-    /// Every word with three flips is lost, and no other.
+    /// As many words are lost as have three flips.
     Lost,
     /// A page has a line where its address has at most two flips, and there only.
     OneLineEach,
@@ -164,102 +164,137 @@ mod tests {
     use crate::reader::log_of_words;
     use crate::send::Accepted;
 
-    /// Its addresses are in slots 9, 0, 3, 4, 14, 15 and 12.
-    const JOB: &[u8] =
-        b"000004 4 3132\n000000 4 313233343536\n000001 2\n000002 5 4142434445464748\n000007 0\n00000F 3\n000006 5 41\n";
-    /// The end of a message, the start of one, the slot behind one, and the last address.
-    const LOST: [usize; 4] = [2, 5, 11, 15];
-    const LINES: &str = "000000 4 3132333435-\n000001 2\n000002 3-\n000004 4 3132-\n000006 5 41\n000007 0-\n";
+    /// A job, the slots that are lost, the lines that are read, and the orphans.
+    struct Day {
+        job: &'static [u8],
+        lost: &'static [usize],
+        lines: &'static str,
+        orphans: u32,
+    }
 
-    fn lose(words: &mut [u32]) {
-        for (slot, word) in words[1..].iter_mut().enumerate() {
-            *word ^= [0, 1 << 31, 0x0001_0001][slot % 3];
+    /// Addresses in slots 9, 0, 3, 4, 14, 15 and 12. Lost are the end of a message, the start of one, the slot behind one, and the
+    /// last address.
+    const FIRST: Day = Day {
+        job: b"000004 4 3132\n000000 4 313233343536\n000001 2\n000002 5 4142434445464748\n000007 0\n00000F 3\n000006 5 41\n",
+        lost: &[2, 5, 11, 15],
+        lines: "000000 4 3132333435-\n000001 2\n000002 3-\n000004 4 3132-\n000006 5 41\n000007 0-\n",
+        orphans: 2,
+    };
+
+    /// Addresses in slots 0, 4, 7, 12, 15, 16, 17, 30 and 31, the last of all. Lost are the second word of a page whose first is spaces,
+    /// the first of one, the second of one, within a character, and an address.
+    const SECOND: Day = Day {
+        job: b"000000 4 202020202031\n000002 4 3132\n000003 5 4142434445464748\n000006 4 31323334353637\n000007 1\n000008 1\n000008 2\n00000F 0\n000017 3\n",
+        lost: &[2, 5, 9, 12],
+        lines: "000000 4-\n000002 0-\n000003 5 4142-\n000007 1\n000008 1\n000008 2\n00000F 0\n000017 3\n",
+        orphans: 3,
+    };
+
+    impl Day {
+        /// The words behind the preamble as received: three flips in the lost slots, none to two in the other words.
+        fn received(&self, batches: &[u32]) -> Vec<u32> {
+            let few = batches.iter().enumerate().map(|(i, word)| word ^ [0, 1 << 31, 0x0001_0001][i % 3]);
+            let mut received: Vec<u32> = few.collect();
+            for slot in self.lost {
+                let at = slot + slot / 16 + 1;
+                received[at] = batches[at] ^ 0x8000_0101;
+            }
+            received
         }
-        for slot in LOST {
-            words[1 + slot] = crate::codeword::correct(words[1 + slot]).unwrap() ^ 0x8000_0101;
+
+        /// The reported slots, the flips of each slot, and what is read.
+        fn read(&self) -> (Vec<u32>, Vec<u32>, Log) {
+            let accepted = Accepted::new(self.job).unwrap();
+            let batches = accepted.words().split_off(18);
+            let received = self.received(&batches);
+            (accepted.placement.slots, flips(&batches, &received), log_of_words(&received).unwrap())
         }
-    }
 
-    /// The reported slots, the flips of each slot, and what is read.
-    fn day() -> (Vec<u32>, Vec<u32>, Log) {
-        let accepted = Accepted::new(JOB).unwrap();
-        let batches = accepted.words().split_off(18);
-        let mut received = batches.clone();
-        lose(&mut received);
-        (accepted.placement.slots, flips(&batches, &received), log_of_words(&received).unwrap())
-    }
+        /// What is said of a reading that is the true one but for a change.
+        fn judged(&self, change: impl FnOnce(&mut Log)) -> Result<(), Broken> {
+            let (slots, flips, mut log) = self.read();
+            let pages = self.lines.lines().count() as u32;
+            assert_eq!(log, Log { lines: self.lines.into(), pages, lost: self.lost.len() as u32, orphans: self.orphans });
+            change(&mut log);
+            judge(&sent(self.job, &slots), &flips, &log)
+        }
 
-    /// What is said of a reading that is the true one but for a change.
-    fn judged(change: impl FnOnce(&mut Log)) -> Result<(), Broken> {
-        let (slots, flips, mut log) = day();
-        assert_eq!(log, Log { lines: LINES.into(), pages: 6, lost: 4, orphans: 2 });
-        change(&mut log);
-        judge(&sent(JOB, &slots), &flips, &log)
-    }
-
-    /// The same where a part of the lines, which is there once, is replaced, and the lines are counted rightly.
-    fn with(part: &str, by: &str) -> Result<(), Broken> {
-        assert_eq!(LINES.matches(part).count(), 1, "{part}");
-        assert_ne!(part, by);
-        judged(|log| {
-            log.lines = LINES.replace(part, by).into();
-            log.pages = log.lines.split_inclusive(|&byte| byte == b'\n').count() as u32;
-        })
+        /// The same where a part of the lines, which is there once, is replaced, and the lines are counted rightly.
+        fn with(&self, part: &str, by: &str) -> Result<(), Broken> {
+            assert_eq!(self.lines.matches(part).count(), 1, "{part}");
+            assert_ne!(part, by);
+            self.judged(|log| {
+                log.lines = self.lines.replace(part, by).into();
+                log.pages = log.lines.split_inclusive(|&byte| byte == b'\n').count() as u32;
+            })
+        }
     }
 
     #[test]
     fn lines_for_pages() {
-        assert_eq!(judged(|_| ()), Ok(()));
+        assert_eq!(FIRST.judged(|_| ()), Ok(()));
+        assert_eq!(SECOND.judged(|_| ()), Ok(()));
         // one missing, doubled, added; one for the page whose address is lost
-        assert_eq!(with("000001 2\n", ""), Err(Broken::OneLineEach));
-        assert_eq!(with("000002 3-\n", ""), Err(Broken::OneLineEach));
-        assert_eq!(with("000001 2\n", "000001 2\n000001 2\n"), Err(Broken::OneLineEach));
-        assert_eq!(with("000006 5 41\n", "000005 1\n000006 5 41\n"), Err(Broken::OneLineEach));
-        assert_eq!(with("000007 0-\n", "000007 0-\n00000F 3\n"), Err(Broken::OneLineEach));
+        assert_eq!(FIRST.with("000001 2\n", ""), Err(Broken::OneLineEach));
+        assert_eq!(FIRST.with("000002 3-\n", ""), Err(Broken::OneLineEach));
+        assert_eq!(FIRST.with("000001 2\n", "000001 2\n000001 2\n"), Err(Broken::OneLineEach));
+        assert_eq!(FIRST.with("000006 5 41\n", "000005 1\n000006 5 41\n"), Err(Broken::OneLineEach));
+        assert_eq!(FIRST.with("000007 0-\n", "000007 0-\n00000F 3\n"), Err(Broken::OneLineEach));
         // as many lines, but two swapped, or one doubled or false in another's place
-        assert_eq!(with("000001 2\n000002 3-\n", "000002 3-\n000001 2\n"), Err(Broken::InSlotOrder));
-        assert_eq!(with("000002 3-\n", "000001 2\n"), Err(Broken::InSlotOrder));
-        assert_eq!(with("000007 0-\n", "00000F 3\n"), Err(Broken::InSlotOrder));
+        assert_eq!(FIRST.with("000001 2\n000002 3-\n", "000002 3-\n000001 2\n"), Err(Broken::InSlotOrder));
+        assert_eq!(FIRST.with("000002 3-\n", "000001 2\n"), Err(Broken::InSlotOrder));
+        assert_eq!(FIRST.with("000007 0-\n", "00000F 3\n"), Err(Broken::InSlotOrder));
+        // two neighbours with the same identity swapped, and one doubled
+        assert_eq!(SECOND.with("000008 1\n000008 2\n", "000008 2\n000008 1\n"), Err(Broken::Whole));
+        assert_eq!(SECOND.with("000008 1\n000008 2\n", "000008 1\n000008 1\n"), Err(Broken::Whole));
+        // one for the page whose address is lost, though its message is read
+        assert_eq!(SECOND.with("000007 1\n", "000006 4 31323334353637-\n000007 1\n"), Err(Broken::OneLineEach));
         // another identity
-        assert_eq!(with("000001 2", "000009 2"), Err(Broken::InSlotOrder));
-        assert_eq!(with("000000 4", "000008 4"), Err(Broken::InSlotOrder));
+        assert_eq!(FIRST.with("000001 2", "000009 2"), Err(Broken::InSlotOrder));
+        assert_eq!(FIRST.with("000000 4", "000008 4"), Err(Broken::InSlotOrder));
     }
 
     #[test]
     fn whole_and_cut_lines() {
-        assert_eq!(with("000001 2\n", "000001 2-\n"), Err(Broken::Whole));
-        assert_eq!(with("5 41\n", "5 41-\n"), Err(Broken::Whole));
-        assert_eq!(with("5 41\n", "5 42\n"), Err(Broken::Whole));
-        assert_eq!(with("5 41\n", "5 4142\n"), Err(Broken::Whole));
-        assert_eq!(with("5 41\n", "5\n"), Err(Broken::Whole));
-        assert_eq!(with("000001 2\n", "000001 1\n"), Err(Broken::Whole));
-        assert_eq!(with("3132333435-", "3132333435"), Err(Broken::Cut));
-        assert_eq!(with("3132333435-", "313233343536"), Err(Broken::Cut));
-        assert_eq!(with("3132333435-", "-3132333435"), Err(Broken::Cut));
+        assert_eq!(FIRST.with("000001 2\n", "000001 2-\n"), Err(Broken::Whole));
+        assert_eq!(FIRST.with("5 41\n", "5 41-\n"), Err(Broken::Whole));
+        assert_eq!(FIRST.with("5 41\n", "5 42\n"), Err(Broken::Whole));
+        assert_eq!(FIRST.with("5 41\n", "5 4142\n"), Err(Broken::Whole));
+        assert_eq!(FIRST.with("5 41\n", "5\n"), Err(Broken::Whole));
+        assert_eq!(FIRST.with("000001 2\n", "000001 1\n"), Err(Broken::Whole));
+        assert_eq!(FIRST.with("3132333435-", "3132333435"), Err(Broken::Cut));
+        assert_eq!(FIRST.with("3132333435-", "313233343536"), Err(Broken::Cut));
+        assert_eq!(FIRST.with("3132333435-", "-3132333435"), Err(Broken::Cut));
+        // the last slot of all has none behind it
+        assert_eq!(SECOND.with("000017 3\n", "000017 3-\n"), Err(Broken::Whole));
         // nothing but the next slot is lost
-        assert_eq!(with(" 3132-\n", " 3132\n"), Err(Broken::Cut));
-        assert_eq!(with("000007 0-\n", "000007 0\n"), Err(Broken::Cut));
-        assert_eq!(with("000007 0-\n", "000007 0-"), Err(Broken::Cut));
+        assert_eq!(FIRST.with(" 3132-\n", " 3132\n"), Err(Broken::Cut));
+        assert_eq!(FIRST.with("000007 0-\n", "000007 0\n"), Err(Broken::Cut));
+        assert_eq!(FIRST.with("000007 0-\n", "000007 0-"), Err(Broken::Cut));
     }
 
     #[test]
     fn kind_and_text_of_cut_lines() {
         // no message word read
-        assert_eq!(with("000002 3-", "000002 5-"), Err(Broken::Kind));
-        assert_eq!(with("000002 3-", "000002 0-"), Err(Broken::Kind));
-        assert_eq!(with("000002 3-", "000002 3 41-"), Err(Broken::Text));
-        assert_eq!(with("000007 0-", "000007 4-"), Err(Broken::Kind));
+        assert_eq!(FIRST.with("000002 3-", "000002 5-"), Err(Broken::Kind));
+        assert_eq!(FIRST.with("000002 3-", "000002 0-"), Err(Broken::Kind));
+        assert_eq!(FIRST.with("000002 3-", "000002 3 41-"), Err(Broken::Text));
+        assert_eq!(FIRST.with("000007 0-", "000007 4-"), Err(Broken::Kind));
+        assert_eq!(SECOND.with("000002 0-", "000002 4-"), Err(Broken::Kind));
         // some read
-        assert_eq!(with("000000 4 3132333435-", "000000 0-"), Err(Broken::Kind));
-        assert_eq!(with("000000 4", "000000 5"), Err(Broken::Kind));
-        assert_eq!(with("3132333435-", "3132333436-"), Err(Broken::Text));
-        assert_eq!(with("3132333435-", "3232333435-"), Err(Broken::Text));
-        assert_eq!(with("3132333435-", "31323334353637-"), Err(Broken::Text));
-        assert_eq!(with("3132333435-", "313233343-"), Err(Broken::Text));
-        assert_eq!(with("000000 4 3132333435-", "000000 4 -"), Err(Broken::Text));
+        assert_eq!(SECOND.with("000000 4-", "000000 0-"), Err(Broken::Kind));
+        assert_eq!(SECOND.with("4142-", "414243-"), Ok(()));
+        assert_eq!(SECOND.with("4142-", "4143-"), Err(Broken::Text));
+        assert_eq!(FIRST.with("000000 4 3132333435-", "000000 0-"), Err(Broken::Kind));
+        assert_eq!(FIRST.with("000000 4", "000000 5"), Err(Broken::Kind));
+        assert_eq!(FIRST.with("3132333435-", "3132333436-"), Err(Broken::Text));
+        assert_eq!(FIRST.with("3132333435-", "3232333435-"), Err(Broken::Text));
+        assert_eq!(FIRST.with("3132333435-", "31323334353637-"), Err(Broken::Text));
+        assert_eq!(FIRST.with("3132333435-", "313233343-"), Err(Broken::Text));
+        assert_eq!(FIRST.with("000000 4 3132333435-", "000000 4 -"), Err(Broken::Text));
         // R-9 leaves it free how much of the text is there
         for text in ["", " 31", " 3132", " 313233343536"] {
-            assert_eq!(with("000000 4 3132333435-", &format!("000000 4{text}-")), Ok(()));
+            assert_eq!(FIRST.with("000000 4 3132333435-", &format!("000000 4{text}-")), Ok(()));
         }
     }
 
@@ -270,17 +305,17 @@ mod tests {
                 |log: &mut Log| (log.lost, log.orphans, log.pages) = (log.lost + lost, log.orphans + orphans, log.pages + pages);
             let fewer =
                 |log: &mut Log| (log.lost, log.orphans, log.pages) = (log.lost - lost, log.orphans - orphans, log.pages - pages);
-            assert_eq!(judged(more), Err(broken));
-            assert_eq!(judged(fewer), Err(broken));
+            assert_eq!(FIRST.judged(more), Err(broken));
+            assert_eq!(FIRST.judged(fewer), Err(broken));
         }
     }
 
     #[test]
     fn slots_beyond_the_batches() {
-        let (mut slots, flips, log) = day();
+        let (mut slots, flips, log) = FIRST.read();
         for slot in [16, 15, 14, u32::MAX] {
             slots[1] = slot;
-            assert_eq!(judge(&sent(JOB, &slots), &flips, &log), Err(Broken::Slots));
+            assert_eq!(judge(&sent(FIRST.job, &slots), &flips, &log), Err(Broken::Slots));
         }
     }
 }

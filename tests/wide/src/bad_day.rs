@@ -16,7 +16,7 @@ const RATES: &[usize] = &[2, 5, 20, 100, 500];
 const SHORT: [&[u8]; 2] = [
     // in slot order: a numeric page whose first message word is spaces, a tone in its pause, directly behind that an alphanumeric
     // page, an idle pause and directly behind it a numeric page, and a tone in each of the last two slots
-    b"00000F 2\n00000C 4 3132\n00000A 5 4142434445464748\n000017 3\n000009 1\n000008 4 202020202031\n",
+    b"00000F 2\n00000C 4 3132\n00000A 5 4142434445464748\n00000F 3\n000009 1\n000008 4 202020202031\n",
     // a message up to the last slot but one, and in its pause, the last slot, a tone
     b"000003 5 4142434445464748494A4B4C4D4E4F505152535455\n000007 0\n",
 ];
@@ -49,18 +49,18 @@ impl<'a> Transmission<'a> {
         Ok(Transmission { job, pages: judge::sent(job, &slots), batches: words.split_off(PREAMBLE_WORDS) })
     }
 
-    /// What the library reads of the received words must be as R-9 has it.
-    fn judged(&self, received: &[u32], read: impl FnOnce(&mut [u8]) -> card::Reading) -> Outcome {
+    /// What the library reads of the received words must be as R-9 has it. `how` says how they were read.
+    fn judged(&self, received: &[u32], how: &str, read: impl FnOnce(&mut [u8]) -> card::Reading) -> Outcome {
         // no line is longer than its page's own and a `-`
         let mut out = vec![0; self.job.len() + self.pages.len()];
         let reading = read(&mut out);
         if reading.number != 0 {
-            return Err(self.wrong(received, &format!("reading answers {reading:?}")));
+            return Err(self.wrong(received, &format!("{how}: reading answers {reading:?}")));
         }
         out.truncate(reading.bytes);
         let log = Log { lines: out, pages: reading.pages, lost: reading.lost, orphans: reading.orphans };
         judge::judge(&self.pages, &judge::flips(&self.batches, received), &log).map_err(|broken| {
-            let what = format!("R-9 is broken: {broken:?}\n{reading:?}\nlines:\n{}", shown(&log.lines));
+            let what = format!("{how}: R-9 is broken: {broken:?}\n{reading:?}\nlines:\n{}", shown(&log.lines));
             self.wrong(received, &what)
         })
     }
@@ -122,10 +122,10 @@ impl Comparison {
             }
         }
         self.count("bad day, each word", 0);
-        transmission.judged(received, |out| card::read_words(received, out))?;
+        transmission.judged(received, "words", |out| card::read_words(received, out))?;
         self.count("bad day, words", 0);
         let listing = listings::of_words(&u32::rubbish(&mut self.random, PREAMBLE_WORDS), received);
-        transmission.judged(received, |out| card::read_listing(&listing, out))?;
+        transmission.judged(received, "listing", |out| card::read_listing(&listing, out))?;
         self.count("bad day, listing", 0);
         Ok(())
     }
@@ -163,11 +163,14 @@ mod tests {
     #[test]
     fn a_set_is_lost() {
         let mut random = Random::new(1);
-        for lost in [0, 1, 0x8000, 0xFFFF, 0x1234] {
+        let mut flips = [[0; 4]; 2];
+        for lost in (0..1 << 16).step_by(0x123) {
             let mut batch = [0; BATCH];
             lose(&mut random, &mut batch, lost);
-            assert!(batch[0].count_ones() <= 2);
             assert!((0..16).all(|slot| (batch[1 + slot].count_ones() == 3) == (lost >> slot & 1 == 1)));
+            batch.iter().enumerate().for_each(|(i, word)| flips[i.min(1)][word.count_ones() as usize] += 1);
         }
+        assert!(flips[0][..3].iter().all(|&count| count > 0) && flips[0][3] == 0, "{flips:?}");
+        assert!(flips[1].iter().all(|&count| count > 0), "{flips:?}");
     }
 }

@@ -13,6 +13,9 @@ fn without_a_mistake() {
     assert!(output.status.success(), "{}", String::from_utf8_lossy(&output.stdout));
 }
 
+/// Those that R-9's judge finds before anything else does.
+const JUDGED: &[&str] = &["reads-31-bits", "whole-before-a-lost-word", "joined-behind-a-lost-word", "cut-keeps-its-kind"];
+
 #[test]
 fn with_each_mistake() {
     for fault in card::stand_in::FAULTS {
@@ -20,5 +23,8 @@ fn with_each_mistake() {
         let text = String::from_utf8_lossy(&output.stdout);
         assert_eq!(output.status.code(), Some(1), "{fault} isn't found");
         assert!(text.contains("DIFFERENCE"), "{fault}: {text}");
+        if JUDGED.contains(fault) {
+            assert!(text.contains("R-9 is broken"), "{fault}: {text}");
+        }
     }
 }
