@@ -7,7 +7,7 @@ use Prim.Native.Nat.{ℕ, suc, _+_, _-_, _≤_, _<_}
 use native.Mathlib.Omega.{arith}
 use lib.ListN.{length, getD, take}
 use lib.Seq.{take-suc, take-all}
-use borrow.Author.Tests.{lt-ltb, le-ltb, lt-leb}
+use borrow.Author.Tests.{lt-ltb, le-ltb, le-leb, lt-leb}
 use Rattle.base.specs.Passing.{passing}
 use Rattle.base.proofs.Bools.{true-false}
 use Rattle.base.proofs.PassingLaws.{passing-more, passing-skip}
@@ -50,11 +50,14 @@ module _ (lost : ℕ → Bool) (xs : List Sending) where
   pub heard-skip : (o : List ℕ) (i : ℕ) → lost (slotOf (placementOf xs) i) ≡ true → heardOf lost xs (o ++ (i ∷ [])) ≡ heardOf lost xs o
   heard-skip o i e = ap (map (hearingIn lost xs)) (passing-skip (isRead lost xs) o i (ap not e))
 
-  -- its address is lost
-  pub none-read : (i : ℕ) → lost (slotOf (placementOf xs) i) ≡ true → reach lost xs i ≡ 0
+  -- its address is lost: nothing of it is read
+  none-read : (i : ℕ) → lost (slotOf (placementOf xs) i) ≡ true → reach lost xs i ≡ 0
   none-read i e =
       let z : slotOf (placementOf xs) i + 0 ≡ slotOf (placementOf xs) i = omega arith in
       least-only _ _ 0 (record { within = omega arith; before = λ j h. absurd (omega arith); here = λ _. ap lost z ∙ e })
+
+  pub all-spoilt : (i j : ℕ) → lost (slotOf (placementOf xs) i) ≡ true → spoilt lost xs i j ≡ true
+  all-spoilt i j e = rw (none-read i e) (le-leb 0 j (omega arith))
 
   -- its address is read
   pub opens : (i s : ℕ) → s ≡ slotOf (placementOf xs) i → lost s ≡ false → OpenPage lost xs i 0 (suc s)

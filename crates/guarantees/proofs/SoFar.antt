@@ -20,7 +20,7 @@ use Rattle.reader.specs.declared.Meaning.the-variants.{Lost}
 use Rattle.guarantees.specs.Order.{withAddress}
 use Rattle.guarantees.specs.Transport.{reach, heardOf, spoilt, orphaned}
 use Rattle.guarantees.proofs.Words.{meaningIn}
-use Rattle.guarantees.proofs.OpenPage.{partly, partly-more, OpenPage, opens, goes-on, none-read, read-cut, not-spoilt, heard-closed, heard-skip}
+use Rattle.guarantees.proofs.OpenPage.{partly, partly-more, OpenPage, opens, goes-on, all-spoilt, read-cut, not-spoilt, heard-closed, heard-skip}
 
 -- what the word of a slot says that holds c: that it is lost, or what was sent
 abbrev pub saidIn : Bool → List Sending → Content → Meaning
@@ -71,7 +71,7 @@ module _ (lost : ℕ → Bool) (xs : List Sending) where
       going p u (suc k) (omega arith) (goes-on lost xs (st .page) k s g inside e) (rw (h, j) (ap some (partly-more xs (st .page) k inside))) (rw h q)
   turned s true st st′ c o r e at (starts i z l may _) so =
       let there : lost (slotOf (placementOf xs) i) ≡ true = ap lost (sym (at i refl)) ∙ e in
-      closed (λ m. rw (none-read lost xs i there) (le-leb 0 (placementOf xs .words i - placementOf xs .words i) (omega arith))) refl (all-closed s true st o r e z so ∙ sym (heard-skip lost xs o i there))
+      closed (λ m. all-spoilt lost xs i _ there) refl (all-closed s true st o r e z so ∙ sym (heard-skip lost xs o i there))
   turned s false st st′ c o r e at (starts i z l may _) so =
       going o refl 0 (omega (arith, words-at xs i)) (opens lost xs i s (at i refl) e)
       (ap some (starts-as xs s i (ready-true (placementOf xs) s st i may .1))) (all-closed s false st o r e z so)

@@ -88,7 +88,7 @@ pub record HeardAs (xs : List Sending) (h : Heard) (words : List ℕ) : Type 0 w
   pub synced : (q : ℕ) → q < batches (placementOf xs) → unsynced (drop 18 words) q ≡ false
   pub heard : heardIn (drop 18 words) ≡ h
 
--- with up to three flips in each frame codeword the sendings of an accepted job are heard so, each up to its first lost word:
+-- with up to three flips in each frame codeword the sendings of an accepted job are heard so, the slots with more than two being lost:
 -- `heard-but` in proofs/Transport.antt proves it
 abbrev pub Transport : Type 0
 Transport =
