@@ -7,7 +7,7 @@ use native.Mathlib.Omega.{arith}
 use Rattle.base.specs.Passing.{passing}
 use Rattle.base.specs.Search.{sum}
 use Rattle.codeword.specs.Nearest.{nearest}
-use Rattle.placement.specs.Placement.{Framed, State, contentAt, stateAt, batches}
+use Rattle.placement.specs.Placement.{Framed, contentAt, stateAt, batches}
 use Rattle.placement.proofs.Contents.{slot}
 use Rattle.placement.proofs.Placed.{done, once}
 use Rattle.transmission.specs.Sending.{Sending, placementOf}

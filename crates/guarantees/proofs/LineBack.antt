@@ -1,4 +1,5 @@
--- The texts' half of demand 2: a page that is heard as it was sent has its line of the job. Assumes nothing.
+-- The texts' half of demand 2: a page that is heard as it was sent has its line of the job. What is shown of any of its groups is what
+-- R-9 needs too. Assumes nothing.
 use mathlib.Core.Path.{_≡_, refl, ap, ap₂, _∙_}
 use mathlib.Core.Bool.{Bool, true, false, not, cond, _&&_}
 use mathlib.Core.List.{List, [], _∷_, _++_}

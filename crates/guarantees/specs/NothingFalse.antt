@@ -1,4 +1,4 @@
--- R-9, nothing false with three wrong bits: a job is sent, each sync has at most two flipped bits and each frame codeword at most three.
+-- R-9, nothing false with three wrong bits: what is read of a job's transmission with up to two flips in a sync and three in a frame codeword.
 -- `nothing-false` in proofs/NothingFalse.antt proves it.
 use mathlib.Core.Path.{_≡_}
 use mathlib.Core.Bool.{Bool, true, false, _||_}
@@ -108,7 +108,7 @@ GivesLog s words line ps room answer behind =
 
 -- what reading these words gives of a job of n pages
 pub record NothingFalse (s : List ℕ) (n : ℕ) (words : List ℕ) : Type 0 where
-  -- three flips always make the word lost
+  -- a word with three flips is lost
   pub lost : (p : ℕ) → p < slotCount s → slotFlips s words p ≡ 3 → meaning (nearest (wordIn words p)) ≡ Lost
   -- the pages that get a line, and the line of each
   pub pages : List ℕ

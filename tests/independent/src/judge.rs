@@ -39,7 +39,7 @@ pub enum Broken {
     OneLineEach,
     /// As many pages are reported as there are lines.
     Pages,
-    /// Each line is for a sent page of its own, in slot order.
+    /// The lines are those of sent pages, one for each, in slot order.
     InSlotOrder,
     /// A page whose codewords and next slot have at most two flips each has its undamaged line.
     Whole,
