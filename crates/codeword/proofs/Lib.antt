@@ -8,5 +8,7 @@ pub mod NearestLaws
 pub mod AnswerLaws
 pub mod Maps
 pub mod Decode
-pub mod TableLaws
+pub mod CheckLaws
+pub mod FlipTests
+pub mod FlipLaws
 pub mod CorrectionTheorem

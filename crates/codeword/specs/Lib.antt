@@ -2,4 +2,5 @@ pub mod Answer
 pub mod Code
 pub mod CorrectionTheorem
 pub mod Nearest
-pub mod Table
+pub mod Places
+pub mod Syndrome

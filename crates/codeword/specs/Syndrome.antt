@@ -1,0 +1,23 @@
+-- The syndrome of a word, which tells its wrong bits (document 01, "Codewords": by the remainder and the parity).
+use mathlib.Core.Path.{_≡_}
+use Prim.Native.Nat.{ℕ, _+_, _*_, _/_, _%_, _^_, _≤_, _<_}
+use Rattle.codeword.specs.Code.{remainder, weight}
+
+-- the ten-bit remainder of a word's bits 1 to 31, then the parity of all 32
+unfoldable pub syndrome : ℕ → ℕ
+syndrome w = remainder 31 (w / 2) * 2 + weight w % 2
+
+-- e is what may be wrong with a word that has the syndrome z: at most two of its 32 bits
+pub record Explains (z e : ℕ) : Type 0 where
+  pub fits : e < 2 ^ 32
+  pub few : weight e ≤ 2
+  pub explains : syndrome e ≡ z
+
+-- the bits to flip where no codeword is at most two bits away: all 32
+abbrev pub tooMany : ℕ
+tooMany = 0xFFFF_FFFF
+
+-- what the bits e to flip in a word with the syndrome z say: they explain z, or they are too many and nothing does
+pub record WrongBits (z e : ℕ) : Type 0 where
+  pub named : (e ≡ tooMany → ⊥) → Explains z e
+  pub none : e ≡ tooMany → (d : ℕ) → Explains z d → ⊥
