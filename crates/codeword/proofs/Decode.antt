@@ -8,15 +8,11 @@ use Rattle.codeword.specs.Nearest.{distance, nearest}
 use Rattle.codeword.specs.Syndrome.{syndrome, Explains}
 use Rattle.codeword.proofs.CodeLaws.{syndrome-obeys}
 use Rattle.codeword.proofs.Linear.{syndrome-xor}
-use Rattle.codeword.proofs.NearestLaws.{nearest-is, nearest-none, nearest-self}
+use Rattle.codeword.proofs.NearestLaws.{nearest-is, nearest-none}
 use Rattle.codeword.proofs.Unique.{error-syndrome}
 use Rattle.codeword.proofs.XorLaws.{xor-cancel}
 
 module _ (w : ℕ) (hw : w < 2 ^ 32) where
-  -- a word with the syndrome 0 reads as itself
-  pub clean : syndrome w ≡ 0 → nearest w ≡ some w
-  clean z = nearest-self w (record { fits = hw; obeying = syndrome-obeys w hw z })
-
   -- at most two bits flipped that explain the syndrome give the nearest codeword
   pub corrected : (e : ℕ) → Explains (syndrome w) e → nearest w ≡ some (bitXor w e)
   unfolding distance

@@ -97,7 +97,3 @@ syndrome-xor a b =
     ap₂ (λ (x y : ℕ). x * 2 + y) (ap (remainder 31) (xor-shr a b 1) ∙ remainder-xor 31 (a / 2) (b / 2)) (parity-xor a b)
     ∙ sym
     (xor-block 1 (remainder 31 (a / 2)) (remainder 31 (b / 2)) (weight a % 2) (weight b % 2) (mod-lt (weight a) (lit< tt)) (mod-lt (weight b) (lit< tt)))
-
-pub syndrome-lt : (w : ℕ) → syndrome w < 2 ^ 11
-unfolding syndrome
-syndrome-lt w = omega (arith, remainder-lt 31 (w / 2))

@@ -96,7 +96,3 @@ module _ (w : ℕ) (hw : w < 2 ^ 32) where
 pub distance-self : (c : ℕ) → distance c c ≡ 0
 unfolding distance weight onesIn
 distance-self c = ap (onesIn 32) (xor-self c)
-
--- a word that obeys the code is its own nearest codeword
-pub nearest-self : (c : ℕ) → Obeying c → nearest c ≡ some c
-nearest-self c o = nearest-is c (o .fits) c (record { codeword = o; close = omega (arith, distance-self c) })

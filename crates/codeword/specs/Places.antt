@@ -12,8 +12,7 @@ checks p =
 -- the places that fail one of five tests, by the checks: these are right
 unfoldable pub rightPlaces : ℕ → ℕ
 rightPlaces checks =
-    let u = bitXor checks (checks / 2 ^ 1) in
-    let s = bitXor (bitXor u (u / 2 ^ 2)) (checks / 2 ^ 5) % 2 ^ 31 in
+    let s = bitXor (bitXor (bitXor (bitXor checks (checks / 2 ^ 1)) (checks / 2 ^ 2)) (checks / 2 ^ 3)) (checks / 2 ^ 5) % 2 ^ 31 in
     let v = bitXor s (s * 2 ^ 31 % 2 ^ 64) in
     let c = bitXor (bitXor checks (bitAnd v (v / 2 ^ 17))) (bitAnd (v / 2 ^ 9) (v / 2 ^ 21)) in
     let f = bitXor c (v / 2 ^ 2) in

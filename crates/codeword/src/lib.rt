@@ -105,11 +105,10 @@ fn parity(word: u32) -> u32
     u32::count_ones(word) % 2
 }
 
-// Stands for bits to flip where no codeword is at most two bits away.
+// Stands for the bits to flip where no codeword is at most two bits away.
 const TOO_MANY: u32 = 0xFFFF_FFFF;
 
-// The bits to flip in a word to make it obey the code: at most two, or TOO_MANY. As many of bits 1 to 31 as are wrong, and bit 32
-// where the parity asks for it: it is a third where two others are wrong and the parity is odd.
+// The bits to flip in a word, at most two, so that it obeys the code; or TOO_MANY.
 fn flips(word: u32) -> u32
     ensures { λ r. ⌜ WrongBits (syndrome word) r ⌝ }
 {
@@ -122,15 +121,20 @@ fn flips(word: u32) -> u32
     if wrong == 0 {
         return TOO_MANY;
     }
+    // One of bits 1 to 31 makes the parity odd: where it is even bit 32 is wrong too.
     if wrong & (wrong - 1) == 0 {
         return wrong * 2 + (1 - odd);
     }
+    // Two make it even: where it is odd bit 32 is a third.
     if odd == 0 {
         return wrong * 2;
     }
     TOO_MANY
 }
 
+// The checks of a word's first 31 bits, the polynomial p: bit i is the coefficient of x^(i + 21) of p h, where h is as in `remainder`
+// and x^31 counts as 1. So each is the same sum of coefficients of p, turned on by a place, and all are 0 exactly where the divisor
+// divides p. With p twice over a shift turns it.
 fn checks(word: u32) -> u64
     ensures { λ r. ⌜ r ≡ checks (word / 2) ⌝ }
 {
@@ -140,11 +144,24 @@ fn checks(word: u32) -> u64
     (t ^ (t >> 1) ^ (t >> 2) ^ (t >> 4) ^ (t >> 8) ^ (t >> 16)) % 0x200_0000_0000
 }
 
+// The wrong ones of bits 1 to 31 where one or two are wrong, by checks that are not all 0: bit i for the coefficient of x^i. None
+// where more are wrong.
+//
+// In the field of 32 elements let a be a root of x^5 + x^2 + 1; then a^3 is one of the divisor's other factor, x^5 + x^4 + x^3 +
+// x^2 + 1. Let s and t be the values of p at a and a^3. A codeword's are 0, so they are those of the wrong bits alone. At place i
+// let u = s / a^i and r = t / a^3i. If x^i is wrong, alone or with x^j, then u = 1 + b and r = 1 + b^3, where b is 0 or a^(j - i), and
+// so r + u^3 = u^2 + u. If this holds, then with b = u + 1 the bit x^i, alone or with x^j, has the values s and t (b is not 1, since s and
+// t are not both 0), and no other two bits have. So x^i is wrong exactly where r + u^3 + u^2 + u is 0.
+//
+// All places are tried at once. Turned by a place, p has the values s / a and t / a^3: so bit i of the checks is a linear function of
+// u and r. Added up by the other factor, read backwards, the checks lose r: bit i of v is a linear function of u, and so is bit i of
+// v shifted, by each number of places another one. Two products of such functions are a linear function of u^3, but for one of u: c has
+// them beside r. In f and h v takes out what c has of u, and puts in what u^2 + u asks for. So bit i of c >> 2, f, f >> 10, h and h >> 3
+// are linear functions of r + u^3 + u^2 + u, of which all five are 0 only where it is.
 fn wrong_places(checks: u64) -> u32
     ensures { λ r. ⌜ r ≡ wrongPlaces checks ⌝ }
 {
-    let u = checks ^ (checks >> 1);
-    let s = (u ^ (u >> 2) ^ (checks >> 5)) % 0x8000_0000;
+    let s = (checks ^ (checks >> 1) ^ (checks >> 2) ^ (checks >> 3) ^ (checks >> 5)) % 0x8000_0000;
     let v = s ^ (s << 31);
     let c = checks ^ (v & (v >> 17)) ^ ((v >> 9) & (v >> 21));
     let f = c ^ (v >> 2);
