@@ -10,8 +10,8 @@ use Rattle.codeword.proofs.Maps.{Map, word, left, right, low, sum, run,
 scheme : Map
 scheme =
     let twice = sum word (left 64 31 word) in
-    let t = sum (sum twice (right 2 twice)) (right 5 twice) in
-    low 41 (sum (sum (sum (sum (sum t (right 1 t)) (right 2 t)) (right 4 t)) (right 8 t)) (right 16 t))
+    let part = sum (sum twice (right 2 twice)) (right 5 twice) in
+    low 41 (sum (sum (sum (sum (sum part (right 1 part)) (right 2 part)) (right 4 part)) (right 8 part)) (right 16 part))
 
 as-map : (p : ℕ) → checks p ≡ run scheme p
 unfolding checks scheme run

@@ -1,7 +1,6 @@
 -- The bits to flip are the right ones, by the tests. Assumes nothing.
-use mathlib.Core.Path.{_≡_, sym, ap₂, _∙_, subst}
+use mathlib.Core.Path.{_≡_, sym, ap, ap₂, _∙_, subst}
 use mathlib.Core.Bool.{Bool, _&&_, _||_}
-use mathlib.Core.List.{List·Memᴰ}
 use mathlib.Core.Logic.{⊎-elim}
 use Prim.Native.Nat.{ℕ, _+_, _-_, _*_, _/_, _%_, _^_, _≤_, _<_}
 use native.Mathlib.Nat.{add-zero, mod-lt}
@@ -31,9 +30,11 @@ explained z e t =
       explains = eqb→eq (syndrome e) z (and-right (leb (weight e) 2) (eqb (syndrome e) z) rest);
     }
 
-among : (e : ℕ) → e < 2 ^ 32 → weight e ≤ 2 → List·Memᴰ e (errors 32)
+error-found : (e : ℕ) → e < 2 ^ 32 → weight e ≤ 2 → found (checks (e / 2)) (weight e % 2) ≡ e
 unfolding weight
-among e h few = in-errors 32 e h few
+error-found e h few =
+    eqb→eq (found (checks (e / 2)) (weight e % 2)) e
+    (all-at (λ e. eqb (found (checks (e / 2)) (weight e % 2)) e) (errors 32) all-found e (in-errors 32 e h few))
 
 too-heavy : weight tooMany ≤ 2 → ⊥
 unfolding weight onesIn
@@ -67,21 +68,19 @@ module _ (r o : ℕ) (hr : r < 1024) (ho : o < 2) where
             let z : remainder 31 (d / 2) * 2 + weight d % 2 ≡ r * 2 + o = x .explains in
             let same-r : remainder 31 (d / 2) ≡ r = omega arith in
             let same-o : weight d % 2 ≡ o = omega arith in
-            let d-found : found (checks (remainder 31 (d / 2))) (weight d % 2) ≡ d =
-            eqb→eq (found (checks (remainder 31 (d / 2))) (weight d % 2)) d
-            (all-at (λ e. eqb (found (checks (remainder 31 (e / 2))) (weight e % 2)) e) (errors 32) all-found d
-            (among d (x .fits) (x .few))) in
-            let d-is : d ≡ tooMany =
-            sym d-found ∙ ap₂ (λ (a b : ℕ). found (checks a) b) same-r same-o ∙ h in
+            let same-checks : checks (d / 2) ≡ checks r = checks-remainder (d / 2) (omega (arith, x .fits)) ∙ ap checks same-r in
+            let d-is : d ≡ tooMany = sym (error-found d (x .fits) (x .few)) ∙ ap₂ found same-checks same-o ∙ h in
             too-heavy (subst (λ (y : ℕ). weight y ≤ 2) d-is (x .few));
       }
 
 -- ---- what the code finds, by the tests that it made
 
 -- the wrong places are among 31
-pub places-lt : (c : ℕ) → wrongPlaces c < 2 ^ 31
+pub places-lt : (c wrong : ℕ) → wrong ≡ wrongPlaces c → wrong < 2 ^ 31
 unfolding wrongPlaces
-places-lt c = xor-lt 31 (rightPlaces c % 2 ^ 31) 0x7FFF_FFFF (mod-lt (rightPlaces c) (lit< tt)) (lit< tt)
+places-lt c wrong e =
+    subst (λ (x : ℕ). x < 2 ^ 31) (sym e)
+    (xor-lt 31 (rightPlaces c % 2 ^ 31) 0x7FFF_FFFF (mod-lt (rightPlaces c) (lit< tt)) (lit< tt))
 
 module _ (w c o : ℕ) (h : w < 2 ^ 32) (e : c ≡ checks (w / 2)) (f : o ≡ weight w % 2) where
   -- what is found by the checks and the parity of a word are the bits to flip in it

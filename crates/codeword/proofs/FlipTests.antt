@@ -23,8 +23,8 @@ unfoldable pub found : ℕ → ℕ → ℕ
 found c odd = flipped c (wrongPlaces c) odd
 
 -- every error of at most two bits is found
-pub all-found : T (all (λ e. eqb (found (checks (remainder 31 (e / 2))) (weight e % 2)) e) (errors 32))
-unfolding found checks rightPlaces wrongPlaces remainder reduce weight onesIn errors words
+pub all-found : T (all (λ e. eqb (found (checks (e / 2)) (weight e % 2)) e) (errors 32))
+unfolding found checks rightPlaces wrongPlaces weight onesIn errors words
 all-found = tt
 
 -- e is an error of at most two bits with the syndrome z

@@ -132,40 +132,41 @@ fn flips(word: u32) -> u32
     TOO_MANY
 }
 
-// The checks of a word's first 31 bits, the polynomial p: bit i is the coefficient of x^(i + 21) of p h, where h is as in `remainder`
-// and x^31 counts as 1. So each is the same sum of coefficients of p, turned on by a place, and all are 0 exactly where the divisor
-// divides p. With p twice over a shift turns it.
+// The checks of the polynomial p of a word's first 31 bits. Bit i is the coefficient of x^(i + 21) of p h, with h as in `remainder` and
+// x^31 counted as 1: so each is the same sum of coefficients of p, which is turned by i places, and all are 0 exactly if the divisor
+// divides p. With p twice over, a shift turns it.
 fn checks(word: u32) -> u64
     ensures { λ r. ⌜ r ≡ checks (word / 2) ⌝ }
 {
     let p = (word / 2) as u64;
     let twice = p ^ (p << 31);
-    let t = twice ^ (twice >> 2) ^ (twice >> 5);
-    (t ^ (t >> 1) ^ (t >> 2) ^ (t >> 4) ^ (t >> 8) ^ (t >> 16)) % 0x200_0000_0000
+    let part = twice ^ (twice >> 2) ^ (twice >> 5);
+    (part ^ (part >> 1) ^ (part >> 2) ^ (part >> 4) ^ (part >> 8) ^ (part >> 16)) % 0x200_0000_0000
 }
 
-// The wrong ones of bits 1 to 31 where one or two are wrong, by checks that are not all 0: bit i for the coefficient of x^i. None
-// where more are wrong.
+// The wrong ones of bits 1 to 31 where they are one or two, bit i for the coefficient of x^i; no bit where they are more. The checks
+// are not all 0.
 //
-// In the field of 32 elements let a be a root of x^5 + x^2 + 1; then a^3 is one of the divisor's other factor, x^5 + x^4 + x^3 +
-// x^2 + 1. Let s and t be the values of p at a and a^3. A codeword's are 0, so they are those of the wrong bits alone. At place i
-// let u = s / a^i and r = t / a^3i. If x^i is wrong, alone or with x^j, then u = 1 + b and r = 1 + b^3, where b is 0 or a^(j - i), and
-// so r + u^3 = u^2 + u. If this holds, then with b = u + 1 the bit x^i, alone or with x^j, has the values s and t (b is not 1, since s and
-// t are not both 0), and no other two bits have. So x^i is wrong exactly where r + u^3 + u^2 + u is 0.
+// In the field of 32 elements let a be a root of x^5 + x^2 + 1; a^3 is then a root of the divisor's other factor, which is
+// x^5 + x^4 + x^3 + x^2 + 1. Let s and t be the values of p at a and a^3. A codeword has 0 and 0, so s and t are the values of the
+// wrong bits alone. For a place i let u = s / a^i and r = t / a^3i. If x^i is wrong, alone or with x^j, then u = 1 + b and r = 1 + b^3,
+// where b is 0 or a^(j - i): so r + u^3 = u^2 + u. If that holds, take b = u + 1, which is not 1, or s and t would be 0: x^i alone, or
+// with the x^j that b names, has the values s and t, and at most one such error has. So x^i is wrong exactly if r + u^3 + u^2 + u = 0.
 //
 // All places are tried at once. Turned by a place, p has the values s / a and t / a^3: so bit i of the checks is a linear function of
-// u and r. Added up by the other factor, read backwards, the checks lose r: bit i of v is a linear function of u, and so is bit i of
-// v shifted, by each number of places another one. Two products of such functions are a linear function of u^3, but for one of u: c has
-// them beside r. In f and h v takes out what c has of u, and puts in what u^2 + u asks for. So bit i of c >> 2, f, f >> 10, h and h >> 3
-// are linear functions of r + u^3 + u^2 + u, of which all five are 0 only where it is.
+// u and r, the same for each i. Summed as the other factor says, read backwards, the checks lose r: bit i of v is a linear function of
+// u. Bit i of v >> k is another one, for each k below 31. Two products of such functions are a linear function of u^3 but for one of u,
+// and c has them beside the checks. So bit i of c >> 2, d, d >> 10, e and e >> 3, with the right shifts of v, is a linear function of
+// r + u^3 + u^2 + u, and all five are 0 only if that is.
 fn wrong_places(checks: u64) -> u32
     ensures { λ r. ⌜ r ≡ wrongPlaces checks ⌝ }
 {
-    let s = (checks ^ (checks >> 1) ^ (checks >> 2) ^ (checks >> 3) ^ (checks >> 5)) % 0x8000_0000;
-    let v = s ^ (s << 31);
+    let once = (checks ^ (checks >> 1) ^ (checks >> 2) ^ (checks >> 3) ^ (checks >> 5))
+        % 0x8000_0000;
+    let v = once ^ (once << 31);
     let c = checks ^ (v & (v >> 17)) ^ ((v >> 9) & (v >> 21));
-    let f = c ^ (v >> 2);
-    let h = (c >> 1) ^ (v >> 10);
-    let right = (c >> 2) | f | (f >> 10) | h | (h >> 3);
+    let d = c ^ (v >> 2);
+    let e = (c >> 1) ^ (v >> 10);
+    let right = (c >> 2) | d | (d >> 10) | e | (e >> 3);
     ((right % 0x8000_0000) ^ 0x7FFF_FFFF) as u32
 }

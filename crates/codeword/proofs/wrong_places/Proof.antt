@@ -8,7 +8,7 @@ use Rattle.codeword.proofs.wrong_places.Tie as tie
 
 cast-result : tie.Need-cast-result
 unfolding rightPlaces wrongPlaces
-cast-result c = record { fits = omega (arith, places-lt (c .args .checks)) }
+cast-result c = record { fits = omega (arith, places-lt (c .args .checks) (wrongPlaces (c .args .checks)) refl) }
 
 returns : tie.Need-returns
 unfolding rightPlaces wrongPlaces
