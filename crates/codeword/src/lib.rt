@@ -168,5 +168,5 @@ fn wrong_places(checks: u64) -> u32
     let d = c ^ (v >> 2);
     let e = (c >> 1) ^ (v >> 10);
     let right = (c >> 2) | d | (d >> 10) | e | (e >> 3);
-    ((right % 0x8000_0000) ^ 0x7FFF_FFFF) as u32
+    ((right % 0x8000_0000) as u32) ^ 0x7FFF_FFFF
 }

@@ -1,14 +1,12 @@
 -- `codeword::wrong_places` meets its contract. Assumes nothing.
 use mathlib.Core.Path.{refl}
-use native.Mathlib.Omega.{arith}
+use borrow.Author.Needs.{needs}
 use Rattle.codeword.specs.Places.{rightPlaces, wrongPlaces}
-use Rattle.codeword.proofs.FlipLaws.{places-lt}
 use Rattle.codeword.proofs.wrong_places.Statement.{statement}
 use Rattle.codeword.proofs.wrong_places.Tie as tie
 
 cast-result : tie.Need-cast-result
-unfolding rightPlaces wrongPlaces
-cast-result c = record { fits = omega (arith, places-lt (c .args .checks) (wrongPlaces (c .args .checks)) refl) }
+cast-result c = search needs
 
 returns : tie.Need-returns
 unfolding rightPlaces wrongPlaces
