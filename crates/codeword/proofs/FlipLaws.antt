@@ -1,25 +1,31 @@
--- The bits to flip are the right ones, by the tests. Assumes nothing.
-use mathlib.Core.Path.{_≡_, sym, ap, ap₂, _∙_, subst}
-use mathlib.Core.Bool.{Bool, _&&_, _||_}
+-- A word with the bits flipped that are found for it is the nearest codeword, by the tests. Assumes nothing.
+use mathlib.Core.Path.{_≡_, refl, sym, ap, ap₂, _∙_, subst}
+use mathlib.Core.Bool.{_&&_}
 use mathlib.Core.Logic.{⊎-elim}
+use mathlib.Core.Option.{Option, none, some}
 use Prim.Native.Nat.{ℕ, _+_, _-_, _*_, _/_, _%_, _^_, _≤_, _<_}
 use native.Mathlib.Nat.{add-zero, mod-lt}
 use native.Mathlib.Omega.{arith}
-use lib.Bits.{bitAnd, xor-lt}
-use lib.Count.{onesIn}
+use lib.Bits.{bitXor, bitAnd}
 use lib.Dec.{T, eqb, leb, ltb, eqb→eq, leb→le, ltb→lt, lit<}
 use borrow.Author.Tests.{eq-eqb, ne-eqb}
 use Rattle.base.proofs.Bools.{and-left, and-right}
+use Rattle.codeword.specs.Answer.{answer}
 use Rattle.codeword.specs.Code.{remainder, weight}
-use Rattle.codeword.specs.Nearest.{errors}
-use Rattle.codeword.specs.Places.{checks, rightPlaces, wrongPlaces}
-use Rattle.codeword.specs.Syndrome.{syndrome, Explains, tooMany, WrongBits}
+use Rattle.codeword.specs.declared.Correction.{Correction}
+use Rattle.codeword.specs.declared.Correction.the-variants.{Corrected, Refused}
+use Rattle.codeword.specs.Nearest.{errors, nearest}
+use Rattle.codeword.specs.Places.{checks, wrongBits}
+use Rattle.codeword.specs.Syndrome.{syndrome, Explains}
 use Rattle.codeword.proofs.CheckLaws.{checks-remainder}
-use Rattle.codeword.proofs.FlipTests.{flipped, found, all-found, explains, explaining, both, all-explaining}
+use Rattle.codeword.proofs.Decode.{corrected, refused}
+use Rattle.codeword.proofs.FlipTests.{flipped, found, isFound, all-found, explains, explaining, both, all-explaining}
 use Rattle.codeword.proofs.Linear.{remainder-lt}
 use Rattle.codeword.proofs.Tests.{all-at, below-at}
 use Rattle.codeword.proofs.Unique.{in-errors}
-use Rattle.codeword.proofs.XorLaws.{two}
+use Rattle.codeword.proofs.XorLaws.{two, xor-assoc}
+
+-- ---- what the tests show
 
 explained : (z e : ℕ) → T (explains z e) → Explains z e
 explained z e t =
@@ -30,89 +36,83 @@ explained z e t =
       explains = eqb→eq (syndrome e) z (and-right (leb (weight e) 2) (eqb (syndrome e) z) rest);
     }
 
-error-found : (e : ℕ) → e < 2 ^ 32 → weight e ≤ 2 → found (checks (e / 2)) (weight e % 2) ≡ e
+error-found : (e : ℕ) → e < 2 ^ 32 → weight e ≤ 2 → T (isFound e (found (checks (e / 2)) (weight e % 2)))
 unfolding weight
 error-found e h few =
-    eqb→eq (found (checks (e / 2)) (weight e % 2)) e
-    (all-at (λ e. eqb (found (checks (e / 2)) (weight e % 2)) e) (errors 32) all-found e (in-errors 32 e h few))
+    all-at (λ e. isFound e (found (checks (e / 2)) (weight e % 2))) (errors 32) all-found e (in-errors 32 e h few)
 
-too-heavy : weight tooMany ≤ 2 → ⊥
-unfolding weight onesIn
-too-heavy h = omega arith
+-- what was found for the syndrome z: bits that explain it, or none where nothing does
+abbrev Right : ℕ → Option ℕ → Type 0
+Right z none = (e : ℕ) → Explains z e → ⊥
+Right z (some e) = Explains z e
 
 module _ (r o : ℕ) (hr : r < 1024) (ho : o < 2) where
-  abbrev bits : ℕ
-  bits = found (checks r) o
-
-  one-parity : T (explaining (r * 2 + o) bits)
+  at-parity : T (explaining (r * 2 + o) (found (checks r) o))
   unfolding found both
-  one-parity =
+  at-parity =
       let c = checks r in
-      let wrong = wrongPlaces c in
+      let wrong = wrongBits c in
       let even = explaining (r * 2) (flipped c wrong 0) in
       let odd = explaining (r * 2 + 1) (flipped c wrong 1) in
-      let t : T (even && odd) = below-at (λ r. both r (checks r) (wrongPlaces (checks r))) 1024 all-explaining r hr in
+      let t : T (even && odd) = below-at (λ r. both r (checks r) (wrongBits (checks r))) 1024 all-explaining r hr in
       ⊎-elim
       (λ e. subst (λ (x : ℕ). T (explaining (r * 2 + x) (flipped c wrong x))) (sym e)
       (subst (λ (z : ℕ). T (explaining z (flipped c wrong 0))) (sym (add-zero (r * 2))) (and-left even odd t)))
       (λ e. subst (λ (x : ℕ). T (explaining (r * 2 + x) (flipped c wrong x))) (sym e) (and-right even odd t))
       (two o ho)
 
-  pub found-right : WrongBits (r * 2 + o) bits
-  unfolding explaining syndrome
-  found-right =
-      record {
-        named = λ h. explained (r * 2 + o) bits
-            (subst (λ (b : Bool). T (b || explains (r * 2 + o) bits)) (ne-eqb bits tooMany h) one-parity);
-        none = λ h d x.
-            let z : remainder 31 (d / 2) * 2 + weight d % 2 ≡ r * 2 + o = x .explains in
-            let same-r : remainder 31 (d / 2) ≡ r = omega arith in
-            let same-o : weight d % 2 ≡ o = omega arith in
-            let same-checks : checks (d / 2) ≡ checks r = checks-remainder (d / 2) (omega (arith, x .fits)) ∙ ap checks same-r in
-            let d-is : d ≡ tooMany = sym (error-found d (x .fits) (x .few)) ∙ ap₂ found same-checks same-o ∙ h in
-            too-heavy (subst (λ (y : ℕ). weight y ≤ 2) d-is (x .few));
-      }
+  -- an error that explains the syndrome has its remainder and its parity, and so it was found
+  its-error : (e : ℕ) → Explains (r * 2 + o) e → T (isFound e (found (checks r) o))
+  unfolding syndrome
+  its-error e x =
+      let z : remainder 31 (e / 2) * 2 + weight e % 2 ≡ r * 2 + o = x .explains in
+      let same-r : remainder 31 (e / 2) ≡ r = omega arith in
+      let same-o : weight e % 2 ≡ o = omega arith in
+      let same-checks : checks (e / 2) ≡ checks r = checks-remainder (e / 2) (omega (arith, x .fits)) ∙ ap checks same-r in
+      subst (λ (b : Option ℕ). T (isFound e b)) (ap₂ found same-checks same-o) (error-found e (x .fits) (x .few))
 
--- ---- what the code finds, by the tests that it made
+  right-at : (b : Option ℕ) → found (checks r) o ≡ b → Right (r * 2 + o) b
+  right-at none q = λ e x. subst (λ (b : Option ℕ). T (isFound e b)) q (its-error e x)
+  right-at (some e) q = explained (r * 2 + o) e (subst (λ (b : Option ℕ). T (explaining (r * 2 + o) b)) q at-parity)
 
--- the wrong places are among 31
-pub places-lt : (c wrong : ℕ) → wrong ≡ wrongPlaces c → wrong < 2 ^ 31
-unfolding wrongPlaces
-places-lt c wrong e =
-    subst (λ (x : ℕ). x < 2 ^ 31) (sym e)
-    (xor-lt 31 (rightPlaces c % 2 ^ 31) 0x7FFF_FFFF (mod-lt (rightPlaces c) (lit< tt)) (lit< tt))
+-- ---- what the code makes of it
 
-module _ (w c o : ℕ) (h : w < 2 ^ 32) (e : c ≡ checks (w / 2)) (f : o ≡ weight w % 2) where
-  -- what is found by the checks and the parity of a word are the bits to flip in it
-  found-rule : WrongBits (syndrome w) (flipped c (wrongPlaces c) o)
+-- the word with the bits flipped that were found, if any
+abbrev flipIn : ℕ → Option ℕ → Option ℕ
+flipIn w none = none
+flipIn w (some e) = some (bitXor w e)
+
+module _ (w c o : ℕ) (h : w < 2 ^ 32) (p : c ≡ checks (w / 2)) (q : o ≡ weight w % 2) where
+  is-nearest : (b : Option ℕ) → Right (syndrome w) b → nearest w ≡ flipIn w b
+  is-nearest none f = refused w h f
+  is-nearest (some e) x = corrected w h e x
+
+  by-found : nearest w ≡ flipIn w (flipped c (wrongBits c) o)
   unfolding syndrome found
-  found-rule =
-      subst (WrongBits (remainder 31 (w / 2) * 2 + weight w % 2))
-      (ap₂ found (sym (checks-remainder (w / 2) (omega arith)) ∙ sym e) (sym f))
-      (found-right (remainder 31 (w / 2)) (weight w % 2) (remainder-lt 31 (w / 2)) (mod-lt (weight w) (lit< tt)))
+  by-found =
+      let r = remainder 31 (w / 2) in
+      let here : found (checks r) (weight w % 2) ≡ found c o = ap₂ found (sym (checks-remainder (w / 2) (omega arith)) ∙ sym p) (sym q) in
+      is-nearest (found c o) (right-at r (weight w % 2) (remainder-lt 31 (w / 2)) (mod-lt (weight w) (lit< tt)) (found c o) here)
 
-  pub no-place : c ≡ 0 → WrongBits (syndrome w) o
-  no-place z = subst (WrongBits (syndrome w)) (rw (eq-eqb c 0 z)) found-rule
+  pub no-check : c ≡ 0 → Corrected (record { 0 = bitXor w o }) ≡ answer (nearest w)
+  no-check z = sym (ap answer by-found ∙ rw (eq-eqb c 0 z))
 
-  module _ (wrong : ℕ) (g : wrong ≡ wrongPlaces c) (n : c ≡ 0 → ⊥) where
-    some-place : WrongBits (syndrome w) (flipped c wrong o)
-    some-place = subst (λ (x : ℕ). WrongBits (syndrome w) (flipped c x o)) (sym g) found-rule
+  module _ (wrong : ℕ) (g : wrong ≡ wrongBits c) (n : c ≡ 0 → ⊥) where
+    by-bits : answer (nearest w) ≡ answer (flipIn w (flipped c wrong o))
+    by-bits = ap answer by-found ∙ ap (λ (x : ℕ). answer (flipIn w (flipped c x o))) (sym g)
 
-    pub none-right : wrong ≡ 0 → WrongBits (syndrome w) tooMany
-    none-right z = subst (WrongBits (syndrome w)) (rw (ne-eqb c 0 n, eq-eqb wrong 0 z)) some-place
+    pub more-wrong : wrong ≡ 0 → Refused ≡ answer (nearest w)
+    more-wrong z = sym (by-bits ∙ rw (ne-eqb c 0 n, eq-eqb wrong 0 z))
 
     module _ (m : wrong ≡ 0 → ⊥) where
-      pub one-place : bitAnd wrong (wrong - 1) ≡ 0 → WrongBits (syndrome w) (wrong * 2 + (1 - o))
-      one-place z =
-          subst (WrongBits (syndrome w)) (rw (ne-eqb c 0 n, ne-eqb wrong 0 m, eq-eqb (bitAnd wrong (wrong - 1)) 0 z)) some-place
+      pub one-bit : bitAnd wrong (wrong - 1) ≡ 0 → Corrected (record { 0 = bitXor (bitXor w wrong) (1 - o) }) ≡ answer (nearest w)
+      one-bit z =
+          ap (λ (x : ℕ). answer (some x)) (xor-assoc w wrong (1 - o))
+          ∙ sym (by-bits ∙ rw (ne-eqb c 0 n, ne-eqb wrong 0 m, eq-eqb (bitAnd wrong (wrong - 1)) 0 z))
 
       module _ (k : bitAnd wrong (wrong - 1) ≡ 0 → ⊥) where
-        pub two-places : o ≡ 0 → WrongBits (syndrome w) (wrong * 2)
-        two-places z =
-            subst (WrongBits (syndrome w))
-            (rw (ne-eqb c 0 n, ne-eqb wrong 0 m, ne-eqb (bitAnd wrong (wrong - 1)) 0 k, eq-eqb o 0 z)) some-place
+        pub two-bits : o ≡ 0 → Corrected (record { 0 = bitXor w wrong }) ≡ answer (nearest w)
+        two-bits z = sym (by-bits ∙ rw (ne-eqb c 0 n, ne-eqb wrong 0 m, ne-eqb (bitAnd wrong (wrong - 1)) 0 k, eq-eqb o 0 z))
 
-        pub three-bits : (o ≡ 0 → ⊥) → WrongBits (syndrome w) tooMany
-        three-bits z =
-            subst (WrongBits (syndrome w))
-            (rw (ne-eqb c 0 n, ne-eqb wrong 0 m, ne-eqb (bitAnd wrong (wrong - 1)) 0 k, ne-eqb o 0 z)) some-place
+        pub third-bit : (o ≡ 0 → ⊥) → Refused ≡ answer (nearest w)
+        third-bit z = sym (by-bits ∙ rw (ne-eqb c 0 n, ne-eqb wrong 0 m, ne-eqb (bitAnd wrong (wrong - 1)) 0 k, ne-eqb o 0 z))

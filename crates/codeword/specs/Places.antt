@@ -19,6 +19,6 @@ rightPlaces checks =
     let e = bitXor (c / 2 ^ 1) (v / 2 ^ 10) in
     bitOr (bitOr (bitOr (bitOr (c / 2 ^ 2) d) (d / 2 ^ 10)) e) (e / 2 ^ 3)
 
--- the others of the 31 places: they are wrong
-unfoldable pub wrongPlaces : ℕ → ℕ
-wrongPlaces checks = bitXor (rightPlaces checks % 2 ^ 31) 0x7FFF_FFFF
+-- the bits at the others of the 31 places: they are wrong
+unfoldable pub wrongBits : ℕ → ℕ
+wrongBits checks = bitXor (rightPlaces checks % 2 ^ 31 * 2) 0xFFFF_FFFE

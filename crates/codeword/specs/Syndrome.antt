@@ -12,12 +12,3 @@ pub record Explains (z e : ℕ) : Type 0 where
   pub fits : e < 2 ^ 32
   pub few : weight e ≤ 2
   pub explains : syndrome e ≡ z
-
--- the bits to flip where no codeword is at most two bits away: all 32
-abbrev pub tooMany : ℕ
-tooMany = 0xFFFF_FFFF
-
--- what the bits e to flip in a word with the syndrome z say: they explain z, or they are too many and nothing does
-pub record WrongBits (z e : ℕ) : Type 0 where
-  pub named : (e ≡ tooMany → ⊥) → Explains z e
-  pub none : e ≡ tooMany → (d : ℕ) → Explains z d → ⊥

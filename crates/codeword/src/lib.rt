@@ -5,8 +5,7 @@ ghost use lib.Dec.{eqb};
 ghost use Rattle.codeword.specs.Answer.{answer};
 ghost use Rattle.codeword.specs.Code.{remainder, weight, codeword, sync, idle, addressBits, messageBits};
 ghost use Rattle.codeword.specs.Nearest.{nearest};
-ghost use Rattle.codeword.specs.Places.{checks, wrongPlaces};
-ghost use Rattle.codeword.specs.Syndrome.{syndrome, WrongBits};
+ghost use Rattle.codeword.specs.Places.{checks, wrongBits};
 
 // A word of 32 bits that obeys the code: bit 1, sent first, is the top bit.
 pub struct Codeword(u32);
@@ -66,12 +65,25 @@ pub enum Correction {
 pub fn correct(word: u32) -> Correction
     ensures { λ r. ⌜ r ≡ answer (nearest word) ⌝ }
 {
-    let flips = flips(word);
-    if flips == TOO_MANY {
-        Correction::Refused
-    } else {
-        Correction::Corrected(Codeword(word ^ flips))
+    let checks = checks(word);
+    let odd = parity(word);
+    if checks == 0 {
+        return Correction::Corrected(Codeword(word ^ odd));
     }
+    let wrong = wrong_bits(checks);
+    if wrong == 0 {
+        return Correction::Refused;
+    }
+    // One of bits 1 to 31 makes the parity odd: where it is even, bit 32 is wrong too.
+    if wrong & (wrong - 1) == 0 {
+        let bit_32 = 1 - odd;
+        return Correction::Corrected(Codeword(word ^ wrong ^ bit_32));
+    }
+    // Two make it even: where it is odd, bit 32 is a third.
+    if odd == 0 {
+        return Correction::Corrected(Codeword(word ^ wrong));
+    }
+    Correction::Refused
 }
 
 // The codeword of 21 information bits.
@@ -105,33 +117,6 @@ fn parity(word: u32) -> u32
     u32::count_ones(word) % 2
 }
 
-// Stands for the bits to flip where no codeword is at most two bits away.
-const TOO_MANY: u32 = 0xFFFF_FFFF;
-
-// The bits to flip in a word, at most two, so that it obeys the code; or TOO_MANY.
-fn flips(word: u32) -> u32
-    ensures { λ r. ⌜ WrongBits (syndrome word) r ⌝ }
-{
-    let checks = checks(word);
-    let odd = parity(word);
-    if checks == 0 {
-        return odd;
-    }
-    let wrong = wrong_places(checks);
-    if wrong == 0 {
-        return TOO_MANY;
-    }
-    // One of bits 1 to 31 makes the parity odd: where it is even bit 32 is wrong too.
-    if wrong & (wrong - 1) == 0 {
-        return wrong * 2 + (1 - odd);
-    }
-    // Two make it even: where it is odd bit 32 is a third.
-    if odd == 0 {
-        return wrong * 2;
-    }
-    TOO_MANY
-}
-
 // The checks of the polynomial p of a word's first 31 bits. Bit i is the coefficient of x^(i + 21) of p h, with h as in `remainder` and
 // x^31 counted as 1: so each is the same sum of coefficients of p, which is turned by i places, and all are 0 exactly if the divisor
 // divides p. With p twice over, a shift turns it.
@@ -144,8 +129,7 @@ fn checks(word: u32) -> u64
     (part ^ (part >> 1) ^ (part >> 2) ^ (part >> 4) ^ (part >> 8) ^ (part >> 16)) % 0x200_0000_0000
 }
 
-// The wrong ones of bits 1 to 31 where they are one or two, bit i for the coefficient of x^i; no bit where they are more. The checks
-// are not all 0.
+// The wrong ones of bits 1 to 31 where they are one or two; no bit where they are more. The checks are not all 0.
 //
 // In the field of 32 elements let a be a root of x^5 + x^2 + 1; a^3 is then a root of the divisor's other factor, which is
 // x^5 + x^4 + x^3 + x^2 + 1. Let s and t be the values of p at a and a^3. A codeword has 0 and 0, so s and t are the values of the
@@ -158,8 +142,8 @@ fn checks(word: u32) -> u64
 // u. Bit i of v >> k is another one, for each k below 31. Two products of such functions are a linear function of u^3 but for one of u,
 // and c has them beside the checks. So bit i of c >> 2, d, d >> 10, e and e >> 3, with the right shifts of v, is a linear function of
 // r + u^3 + u^2 + u, and all five are 0 only if that is.
-fn wrong_places(checks: u64) -> u32
-    ensures { λ r. ⌜ r ≡ wrongPlaces checks ⌝ }
+fn wrong_bits(checks: u64) -> u32
+    ensures { λ r. ⌜ r ≡ wrongBits checks ⌝ }
 {
     let once = (checks ^ (checks >> 1) ^ (checks >> 2) ^ (checks >> 3) ^ (checks >> 5))
         % 0x8000_0000;
@@ -168,5 +152,5 @@ fn wrong_places(checks: u64) -> u32
     let d = c ^ (v >> 2);
     let e = (c >> 1) ^ (v >> 10);
     let right = (c >> 2) | d | (d >> 10) | e | (e >> 3);
-    ((right % 0x8000_0000) as u32) ^ 0x7FFF_FFFF
+    ((right % 0x8000_0000 * 2) as u32) ^ 0xFFFF_FFFE
 }
