@@ -9,8 +9,8 @@ use lib.Count.{onesIn, ones, ones-step}
 use lib.Dec.{T, eqb, eqb→eq, eqb-refl, lit<}
 use Rattle.codeword.specs.Code.{reduce, remainder, weight, withParity, codeword, obeys, sync, idle}
 use Rattle.codeword.specs.CorrectionTheorem.{Obeying}
-use Rattle.codeword.specs.Syndrome.{syndrome}
 use Rattle.codeword.proofs.Linear.{remainder-lt, remainder-xor, remainder-small}
+use Rattle.codeword.proofs.Syndrome.{syndrome}
 use Rattle.codeword.proofs.XorLaws.{xor-zero-eq}
 
 -- a digit above the number's own is not set

@@ -5,10 +5,10 @@ use Prim.Native.Nat.{ℕ, _^_, _≤_, _<_}
 use lib.Bits.{bitXor, xor-lt, xor-self}
 use Rattle.codeword.specs.Code.{weight}
 use Rattle.codeword.specs.Nearest.{distance, nearest}
-use Rattle.codeword.specs.Syndrome.{syndrome, Explains}
 use Rattle.codeword.proofs.CodeLaws.{syndrome-obeys}
 use Rattle.codeword.proofs.Linear.{syndrome-xor}
 use Rattle.codeword.proofs.NearestLaws.{nearest-is, nearest-none}
+use Rattle.codeword.proofs.Syndrome.{syndrome, Explains}
 use Rattle.codeword.proofs.Unique.{error-syndrome}
 use Rattle.codeword.proofs.XorLaws.{xor-cancel}
 

@@ -16,12 +16,12 @@ use Rattle.codeword.specs.declared.Correction.{Correction}
 use Rattle.codeword.specs.declared.Correction.the-variants.{Corrected, Refused}
 use Rattle.codeword.specs.Nearest.{errors, nearest}
 use Rattle.codeword.specs.Places.{checks, wrongBits}
-use Rattle.codeword.specs.Syndrome.{syndrome, Explains}
 use Rattle.codeword.proofs.CheckLaws.{checks-remainder}
 use Rattle.codeword.proofs.Decode.{corrected, refused}
-use Rattle.codeword.proofs.FlipTests.{flipped, found, isFound, all-found, explains, explaining, both, all-explaining}
+use Rattle.codeword.proofs.FlipTests.{flipped, found, isFound, all-found, explains, explaining, both, tested, all-tested}
 use Rattle.codeword.proofs.Linear.{remainder-lt}
-use Rattle.codeword.proofs.Tests.{all-at, below-at}
+use Rattle.codeword.proofs.Syndrome.{syndrome, Explains}
+use Rattle.codeword.proofs.Tests.{all-at}
 use Rattle.codeword.proofs.Unique.{in-errors}
 use Rattle.codeword.proofs.XorLaws.{two, xor-assoc}
 
@@ -48,13 +48,13 @@ Right z (some e) = Explains z e
 
 module _ (r o : ℕ) (hr : r < 1024) (ho : o < 2) where
   at-parity : T (explaining (r * 2 + o) (found (checks r) o))
-  unfolding found both
+  unfolding found both tested
   at-parity =
       let c = checks r in
       let wrong = wrongBits c in
       let even = explaining (r * 2) (flipped c wrong 0) in
       let odd = explaining (r * 2 + 1) (flipped c wrong 1) in
-      let t : T (even && odd) = below-at (λ r. both r (checks r) (wrongBits (checks r))) 1024 all-explaining r hr in
+      let t : T (even && odd) = all-tested r hr in
       ⊎-elim
       (λ e. subst (λ (x : ℕ). T (explaining (r * 2 + x) (flipped c wrong x))) (sym e)
       (subst (λ (z : ℕ). T (explaining z (flipped c wrong 0))) (sym (add-zero (r * 2))) (and-left even odd t)))

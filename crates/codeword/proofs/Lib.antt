@@ -1,4 +1,5 @@
 pub mod XorLaws
+pub mod Syndrome
 pub mod Linear
 pub mod CodeLaws
 pub mod Tests

@@ -9,7 +9,7 @@ use lib.Bits.{bitXor, xor-zero-r, xor-shr, xor-mod, xor-block}
 use lib.Count.{onesIn}
 use lib.Dec.{lit<}
 use Rattle.codeword.specs.Code.{divisor, reduce, remainder, weight}
-use Rattle.codeword.specs.Syndrome.{syndrome}
+use Rattle.codeword.proofs.Syndrome.{syndrome}
 use Rattle.codeword.proofs.XorLaws.{two, odd-sum, xor-odd, xor-swap}
 
 -- ---- the remainder

@@ -11,7 +11,7 @@ use lib.Pow.{pow-pos}
 use Rattle.codeword.specs.Code.{remainder, weight}
 use Rattle.codeword.specs.CorrectionTheorem.{Obeying, Far}
 use Rattle.codeword.specs.Nearest.{distance}
-use Rattle.codeword.specs.Syndrome.{syndrome}
+use Rattle.codeword.proofs.Syndrome.{syndrome}
 use Rattle.codeword.proofs.Unique.{error-syndrome, unique}
 use Rattle.codeword.proofs.XorLaws.{bit, xor-odd, xor-assoc}
 

@@ -12,9 +12,9 @@ use lib.Dec.{T}
 use Rattle.codeword.specs.Code.{reduce, remainder, weight}
 use Rattle.codeword.specs.CorrectionTheorem.{Obeying, Near}
 use Rattle.codeword.specs.Nearest.{distance, words, errors}
-use Rattle.codeword.specs.Syndrome.{syndrome}
 use Rattle.codeword.proofs.Linear.{syndrome-xor}
 use Rattle.codeword.proofs.CodeLaws.{obeys-syndrome}
+use Rattle.codeword.proofs.Syndrome.{syndrome}
 use Rattle.codeword.proofs.Tests.{distinct, injective}
 use Rattle.codeword.proofs.XorLaws.{bit, xor-cancel}
 

@@ -3,4 +3,3 @@ pub mod Code
 pub mod CorrectionTheorem
 pub mod Nearest
 pub mod Places
-pub mod Syndrome

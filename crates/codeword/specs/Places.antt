@@ -14,10 +14,13 @@ unfoldable pub rightPlaces : ℕ → ℕ
 rightPlaces checks =
     let once = bitXor (bitXor (bitXor (bitXor checks (checks / 2 ^ 1)) (checks / 2 ^ 2)) (checks / 2 ^ 3)) (checks / 2 ^ 5) % 2 ^ 31 in
     let v = bitXor once (once * 2 ^ 31 % 2 ^ 64) in
-    let c = bitXor (bitXor checks (bitAnd v (v / 2 ^ 17))) (bitAnd (v / 2 ^ 9) (v / 2 ^ 21)) in
-    let d = bitXor c (v / 2 ^ 2) in
-    let e = bitXor (c / 2 ^ 1) (v / 2 ^ 10) in
-    bitOr (bitOr (bitOr (bitOr (c / 2 ^ 2) d) (d / 2 ^ 10)) e) (e / 2 ^ 3)
+    let c = bitXor (bitXor checks (bitAnd v (v / 2 ^ 10))) (bitAnd (v / 2 ^ 24) (v / 2 ^ 27)) in
+    let first = bitXor c (v / 2 ^ 2) in
+    let second = bitXor (c / 2 ^ 1) (v / 2 ^ 10) in
+    let third = c / 2 ^ 2 in
+    let fourth = bitXor (c / 2 ^ 3) (v / 2 ^ 24) in
+    let fifth = bitXor (c / 2 ^ 4) (v / 2 ^ 13) in
+    bitOr (bitOr (bitOr (bitOr first second) third) fourth) fifth
 
 -- the bits at the others of the 31 places: they are wrong
 unfoldable pub wrongBits : ℕ → ℕ

@@ -67,6 +67,7 @@ pub fn correct(word: u32) -> Correction
 {
     let checks = checks(word);
     let odd = parity(word);
+    // None of bits 1 to 31 is wrong: where the parity is odd, bit 32 is.
     if checks == 0 {
         return Correction::Corrected(Codeword(word ^ odd));
     }
@@ -135,22 +136,24 @@ fn checks(word: u32) -> u64
 // x^5 + x^4 + x^3 + x^2 + 1. Let s and t be the values of p at a and a^3. A codeword has 0 and 0, so s and t are the values of the
 // wrong bits alone. For a place i let u = s / a^i and r = t / a^3i. If x^i is wrong, alone or with x^j, then u = 1 + b and r = 1 + b^3,
 // where b is 0 or a^(j - i): so r + u^3 = u^2 + u. If that holds, take b = u + 1, which is not 1, or s and t would be 0: x^i alone, or
-// with the x^j that b names, has the values s and t, and at most one such error has. So x^i is wrong exactly if r + u^3 + u^2 + u = 0.
+// with the x^j that b names, has the values s and t, and at most one such error has. So x^i is wrong exactly if r + u^3 = u^2 + u.
 //
 // All places are tried at once. Turned by a place, p has the values s / a and t / a^3: so bit i of the checks is a linear function of
 // u and r, the same for each i. Summed as the other factor says, read backwards, the checks lose r: bit i of v is a linear function of
-// u. Bit i of v >> k is another one, for each k below 31. Two products of such functions are a linear function of u^3 but for one of u,
-// and c has them beside the checks. So bit i of c >> 2, d, d >> 10, e and e >> 3, with the right shifts of v, is a linear function of
-// r + u^3 + u^2 + u, and all five are 0 only if that is.
+// u, and bit i of v >> k is another one for each k below 31. Two products of such functions are a linear function of u^3 but for one of
+// u: so bit i of c is a linear function of r + u^3 but for one of u. Five bits of c in a row, from i on, tell r + u^3 where u is known.
+// Each is compared with the linear function of u that it is where r + u^3 = u^2 + u; for the third of them that is 0.
 fn wrong_bits(checks: u64) -> u32
     ensures { λ r. ⌜ r ≡ wrongBits checks ⌝ }
 {
     let once = (checks ^ (checks >> 1) ^ (checks >> 2) ^ (checks >> 3) ^ (checks >> 5))
         % 0x8000_0000;
     let v = once ^ (once << 31);
-    let c = checks ^ (v & (v >> 17)) ^ ((v >> 9) & (v >> 21));
-    let d = c ^ (v >> 2);
-    let e = (c >> 1) ^ (v >> 10);
-    let right = (c >> 2) | d | (d >> 10) | e | (e >> 3);
+    let c = checks ^ (v & (v >> 10)) ^ ((v >> 24) & (v >> 27));
+    let right = (c ^ (v >> 2))
+        | ((c >> 1) ^ (v >> 10))
+        | (c >> 2)
+        | ((c >> 3) ^ (v >> 24))
+        | ((c >> 4) ^ (v >> 13));
     ((right % 0x8000_0000 * 2) as u32) ^ 0xFFFF_FFFE
 }

@@ -1,4 +1,4 @@
--- The syndrome of a word, which tells its wrong bits (document 01, "Codewords": by the remainder and the parity).
+-- The syndrome of a word, which tells its wrong bits. Assumes nothing.
 use mathlib.Core.Path.{_≡_}
 use Prim.Native.Nat.{ℕ, _+_, _*_, _/_, _%_, _^_, _≤_, _<_}
 use Rattle.codeword.specs.Code.{remainder, weight}
