@@ -1,5 +1,5 @@
 -- A word with the bits flipped that are found for it is the nearest codeword, by the tests. Assumes nothing.
-use mathlib.Core.Path.{_≡_, refl, sym, ap, ap₂, _∙_, subst}
+use mathlib.Core.Path.{_≡_, sym, ap, ap₂, _∙_, subst}
 use mathlib.Core.Bool.{_&&_}
 use mathlib.Core.Logic.{⊎-elim}
 use mathlib.Core.Option.{Option, none, some}
@@ -12,7 +12,6 @@ use borrow.Author.Tests.{eq-eqb, ne-eqb}
 use Rattle.base.proofs.Bools.{and-left, and-right}
 use Rattle.codeword.specs.Answer.{answer}
 use Rattle.codeword.specs.Code.{remainder, weight}
-use Rattle.codeword.specs.declared.Correction.{Correction}
 use Rattle.codeword.specs.declared.Correction.the-variants.{Corrected, Refused}
 use Rattle.codeword.specs.Nearest.{errors, nearest}
 use Rattle.codeword.specs.Places.{checks, wrongBits}

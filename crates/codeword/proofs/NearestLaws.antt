@@ -12,7 +12,7 @@ use lib.Count.{onesIn}
 use lib.Dec.{T, leb, ltb, leb→le, ltb→lt}
 use Rattle.base.proofs.Bools.{and-left, and-right}
 use Rattle.codeword.specs.Code.{weight, obeys}
-use Rattle.codeword.specs.CorrectionTheorem.{Obeying, Near, Far}
+use Rattle.codeword.specs.CorrectionTheorem.{Near, Far}
 use Rattle.codeword.specs.Nearest.{distance, words, errors, orElse, firstCodeword, nearest}
 use Rattle.codeword.proofs.Tests.{all, all-at}
 use Rattle.codeword.proofs.Unique.{in-errors, unique}

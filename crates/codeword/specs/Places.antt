@@ -12,7 +12,8 @@ checks p =
 -- the places that fail one of five tests: they are right
 unfoldable pub rightPlaces : ℕ → ℕ
 rightPlaces checks =
-    let once = bitXor (bitXor (bitXor (bitXor checks (checks / 2 ^ 1)) (checks / 2 ^ 2)) (checks / 2 ^ 3)) (checks / 2 ^ 5) % 2 ^ 31 in
+    let sum = bitXor checks (checks / 2 ^ 1) in
+    let once = bitXor (bitXor sum (sum / 2 ^ 2)) (checks / 2 ^ 5) % 2 ^ 31 in
     let v = bitXor once (once * 2 ^ 31 % 2 ^ 64) in
     let c = bitXor (bitXor checks (bitAnd v (v / 2 ^ 10))) (bitAnd (v / 2 ^ 24) (v / 2 ^ 27)) in
     let first = bitXor c (v / 2 ^ 2) in

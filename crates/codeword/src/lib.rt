@@ -139,15 +139,15 @@ fn checks(word: u32) -> u64
 // with the x^j that b names, has the values s and t, and at most one such error has. So x^i is wrong exactly if r + u^3 = u^2 + u.
 //
 // All places are tried at once. Turned by a place, p has the values s / a and t / a^3: so bit i of the checks is a linear function of
-// u and r, the same for each i. Summed as the other factor says, read backwards, the checks lose r: bit i of v is a linear function of
-// u, and bit i of v >> k is another one for each k below 31. Two products of such functions are a linear function of u^3 but for one of
-// u: so bit i of c is a linear function of r + u^3 but for one of u. Five bits of c in a row, from i on, tell r + u^3 where u is known.
-// Each is compared with the linear function of u that it is where r + u^3 = u^2 + u; for the third of them that is 0.
+// u and r, the same for each i. The sum of bits i to i + 3 and i + 5 of the checks, the other factor read backwards, has no r: bit i of v
+// is a linear function of u, and bit i of v >> k is another one for each k below 31. Two products of such functions are a linear
+// function of u^3 but for one of u: so bit i of c is a linear function of r + u^3 but for one of u, and five bits of c in a row, from i
+// on, tell r + u^3 where u is known. Each is compared with the function of u that it is where r + u^3 = u^2 + u; the third is 0 there.
 fn wrong_bits(checks: u64) -> u32
     ensures { λ r. ⌜ r ≡ wrongBits checks ⌝ }
 {
-    let once = (checks ^ (checks >> 1) ^ (checks >> 2) ^ (checks >> 3) ^ (checks >> 5))
-        % 0x8000_0000;
+    let sum = checks ^ (checks >> 1);
+    let once = (sum ^ (sum >> 2) ^ (checks >> 5)) % 0x8000_0000;
     let v = once ^ (once << 31);
     let c = checks ^ (v & (v >> 10)) ^ ((v >> 24) & (v >> 27));
     let right = (c ^ (v >> 2))
