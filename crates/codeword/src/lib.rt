@@ -118,9 +118,9 @@ fn parity(word: u32) -> u32
     u32::count_ones(word) % 2
 }
 
-// The checks of the polynomial p of a word's first 31 bits. Bit i is the coefficient of x^(i + 21) of p h, with h as in `remainder` and
-// x^31 counted as 1: so each is the same sum of coefficients of p, which is turned by i places, and all are 0 exactly if the divisor
-// divides p. With p twice over, a shift turns it.
+// The checks of a word's first 31 bits, the polynomial p. Bit i is the coefficient of x^(i + 21) of p h, with h as in `remainder` and
+// x^31 counted as 1: the same sum of coefficients of p for each i, with p turned by i places. All are 0 exactly if the divisor divides
+// p. With p twice over, a shift turns it.
 fn checks(word: u32) -> u64
     ensures { λ r. ⌜ r ≡ checks (word / 2) ⌝ }
 {
@@ -139,10 +139,11 @@ fn checks(word: u32) -> u64
 // with the x^j that b names, has the values s and t, and at most one such error has. So x^i is wrong exactly if r + u^3 = u^2 + u.
 //
 // All places are tried at once. Turned by a place, p has the values s / a and t / a^3: so bit i of the checks is a linear function of
-// u and r, the same for each i. The sum of bits i to i + 3 and i + 5 of the checks, the other factor read backwards, has no r: bit i of v
-// is a linear function of u, and bit i of v >> k is another one for each k below 31. Two products of such functions are a linear
-// function of u^3 but for one of u: so bit i of c is a linear function of r + u^3 but for one of u, and five bits of c in a row, from i
-// on, tell r + u^3 where u is known. Each is compared with the function of u that it is where r + u^3 = u^2 + u; the third is 0 there.
+// u and r, the same for each i. The sum of bits i to i + 3 and i + 5 of the checks, the other factor read backwards, has no r: bit i of
+// v is a linear function of u, and bit i of v >> k is another one for each k below 31. The two products of these are, but for a linear
+// function of u, the function of u^3 that the checks have of r. So bit i of c is a linear function of r + u^3 but for one of u, and five
+// bits of c in a row, from i on, tell r + u^3 where u is known. Each is compared with what it is where r + u^3 = u^2 + u: a linear
+// function of u, so a bit of v, and for the third of them 0.
 fn wrong_bits(checks: u64) -> u32
     ensures { λ r. ⌜ r ≡ wrongBits checks ⌝ }
 {
