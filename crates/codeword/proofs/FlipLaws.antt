@@ -3,12 +3,12 @@ use mathlib.Core.Path.{_≡_, sym, ap, ap₂, _∙_, subst}
 use mathlib.Core.Bool.{_&&_}
 use mathlib.Core.Logic.{⊎-elim}
 use mathlib.Core.Option.{Option, none, some}
-use Prim.Native.Nat.{ℕ, _+_, _-_, _*_, _/_, _%_, _^_, _≤_, _<_}
+use Prim.Native.Nat.{ℕ, _+_, _*_, _/_, _%_, _^_, _≤_, _<_}
 use native.Mathlib.Nat.{add-zero, mod-lt}
 use native.Mathlib.Omega.{arith}
-use lib.Bits.{bitXor, bitAnd}
+use lib.Bits.{bitXor}
 use lib.Dec.{T, eqb, leb, ltb, eqb→eq, leb→le, ltb→lt, lit<}
-use borrow.Author.Tests.{eq-eqb, ne-eqb}
+use borrow.Author.Tests.{lt-ltb, le-ltb, eq-eqb, ne-eqb}
 use Rattle.base.proofs.Bools.{and-left, and-right}
 use Rattle.codeword.specs.Answer.{answer}
 use Rattle.codeword.specs.Code.{remainder, weight}
@@ -17,7 +17,7 @@ use Rattle.codeword.specs.Nearest.{errors, nearest}
 use Rattle.codeword.specs.Places.{checks, wrongBits}
 use Rattle.codeword.proofs.CheckLaws.{checks-remainder}
 use Rattle.codeword.proofs.Decode.{corrected, refused}
-use Rattle.codeword.proofs.FlipTests.{flipped, found, isFound, all-found, explains, explaining, both, tested, all-tested}
+use Rattle.codeword.proofs.FlipTests.{single, flipped, found, isFound, all-found, explains, explaining, both, tested, all-tested}
 use Rattle.codeword.proofs.Linear.{remainder-lt}
 use Rattle.codeword.proofs.Syndrome.{syndrome, Explains}
 use Rattle.codeword.proofs.Tests.{all-at}
@@ -104,14 +104,10 @@ module _ (w c o : ℕ) (h : w < 2 ^ 32) (p : c ≡ checks (w / 2)) (q : o ≡ we
     more-wrong z = sym (by-bits ∙ rw (ne-eqb c 0 n, eq-eqb wrong 0 z))
 
     module _ (m : wrong ≡ 0 → ⊥) where
-      pub one-bit : bitAnd wrong (wrong - 1) ≡ 0 → Corrected (record { 0 = bitXor (bitXor w wrong) (1 - o) }) ≡ answer (nearest w)
-      one-bit z =
-          ap (λ (x : ℕ). answer (some x)) (xor-assoc w wrong (1 - o))
-          ∙ sym (by-bits ∙ rw (ne-eqb c 0 n, ne-eqb wrong 0 m, eq-eqb (bitAnd wrong (wrong - 1)) 0 z))
+      pub third-bit : single wrong < o → Refused ≡ answer (nearest w)
+      third-bit l = sym (by-bits ∙ rw (ne-eqb c 0 n, ne-eqb wrong 0 m, lt-ltb (single wrong) o l))
 
-      module _ (k : bitAnd wrong (wrong - 1) ≡ 0 → ⊥) where
-        pub two-bits : o ≡ 0 → Corrected (record { 0 = bitXor w wrong }) ≡ answer (nearest w)
-        two-bits z = sym (by-bits ∙ rw (ne-eqb c 0 n, ne-eqb wrong 0 m, ne-eqb (bitAnd wrong (wrong - 1)) 0 k, eq-eqb o 0 z))
-
-        pub third-bit : (o ≡ 0 → ⊥) → Refused ≡ answer (nearest w)
-        third-bit z = sym (by-bits ∙ rw (ne-eqb c 0 n, ne-eqb wrong 0 m, ne-eqb (bitAnd wrong (wrong - 1)) 0 k, ne-eqb o 0 z))
+      pub few-bits : o ≤ single wrong → Corrected (record { 0 = bitXor (bitXor w wrong) (bitXor (single wrong) o) }) ≡ answer (nearest w)
+      few-bits l =
+          ap (λ (x : ℕ). answer (some x)) (xor-assoc w wrong (bitXor (single wrong) o))
+          ∙ sym (by-bits ∙ rw (ne-eqb c 0 n, ne-eqb wrong 0 m, le-ltb (single wrong) o l))

@@ -10,6 +10,7 @@ use native.Mathlib.Omega.{arith}
 use lib.Bits.{bitXor, bitAnd}
 use lib.Count.{onesIn}
 use lib.Dec.{T, eqb, leb, ltb, lit<}
+use mir.Val.{boolByte}
 use Rattle.codeword.specs.Code.{reduce, remainder, weight}
 use Rattle.codeword.specs.Nearest.{words, errors}
 use Rattle.codeword.specs.Places.{checks, rightPlaces, wrongBits}
@@ -17,12 +18,15 @@ use Rattle.codeword.proofs.Syndrome.{syndrome}
 use Rattle.codeword.proofs.Tests.{all, below, below-at}
 use Rattle.codeword.proofs.XorLaws.{two}
 
+-- 1 where a single bit is wrong
+abbrev pub single : ℕ → ℕ
+single wrong = boolByte (eqb (bitAnd wrong (wrong - 1)) 0)
+
 -- the bits to flip, if there are at most two, by the checks, the wrong ones of bits 1 to 31 and the parity
 abbrev pub flipped : ℕ → ℕ → ℕ → Option ℕ
 flipped c wrong odd =
     cond (eqb c 0) (some odd)
-    (cond (eqb wrong 0) none
-    (cond (eqb (bitAnd wrong (wrong - 1)) 0) (some (bitXor wrong (1 - odd))) (cond (eqb odd 0) (some wrong) none)))
+    (cond (eqb wrong 0) none (cond (ltb (single wrong) odd) none (some (bitXor wrong (bitXor (single wrong) odd)))))
 
 -- the same, by the checks and the parity
 unfoldable pub found : ℕ → ℕ → Option ℕ

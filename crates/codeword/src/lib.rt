@@ -75,16 +75,13 @@ pub fn correct(word: u32) -> Correction
     if wrong == 0 {
         return Correction::Refused;
     }
-    // One of bits 1 to 31 makes the parity odd: where it is even, bit 32 is wrong too.
-    if wrong & (wrong - 1) == 0 {
-        let bit_32 = 1 - odd;
-        return Correction::Corrected(Codeword(word ^ wrong ^ bit_32));
+    // One wrong bit makes the parity odd, two make it even. Otherwise bit 32 is wrong too, and beside two others it is a third.
+    let one = (wrong & (wrong - 1) == 0) as u32;
+    if one < odd {
+        return Correction::Refused;
     }
-    // Two make it even: where it is odd, bit 32 is a third.
-    if odd == 0 {
-        return Correction::Corrected(Codeword(word ^ wrong));
-    }
-    Correction::Refused
+    let bit_32 = one ^ odd;
+    Correction::Corrected(Codeword(word ^ wrong ^ bit_32))
 }
 
 // The codeword of 21 information bits.

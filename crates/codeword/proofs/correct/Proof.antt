@@ -1,6 +1,6 @@
 -- `codeword::correct` meets its contract. Assumes nothing.
 use borrow.Author.Needs.{needs}
-use Rattle.codeword.proofs.FlipLaws.{no-check, more-wrong, one-bit, two-bits, third-bit}
+use Rattle.codeword.proofs.FlipLaws.{no-check, more-wrong, third-bit, few-bits}
 use Rattle.codeword.proofs.correct.Statement.{statement}
 use Rattle.codeword.proofs.correct.Tie as tie
 
@@ -19,20 +19,17 @@ wrong-bits-requires c κs = search needs
 returns-2 : tie.Need-returns-2
 returns-2 c = search more-wrong
 
-sub-if3 : tie.Need-sub-if3
-sub-if3 c = search needs
+sub-one : tie.Need-sub-one
+sub-one c = search needs
 
-sub-bit-32 : tie.Need-sub-bit-32
-sub-bit-32 c = search needs
+cast-one : tie.Need-cast-one
+cast-one c = search needs
 
 returns-3 : tie.Need-returns-3
-returns-3 c = search one-bit
+returns-3 c = search third-bit
 
 returns-4 : tie.Need-returns-4
-returns-4 c = search two-bits
-
-returns-5 : tie.Need-returns-5
-returns-5 c = search third-bit
+returns-4 c = search few-bits
 
 pub correct-spec : {M : Type 1} → statement M
 correct-spec =
@@ -43,8 +40,7 @@ correct-spec =
     returns
     wrong-bits-requires
     returns-2
-    sub-if3
-    sub-bit-32
+    sub-one
+    cast-one
     returns-3
-    returns-4
-    returns-5)
+    returns-4)
