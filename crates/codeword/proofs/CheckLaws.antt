@@ -26,3 +26,8 @@ of-remainder a b = ap checks (remainder-xor 31 a b) ∙ checks-xor (remainder 31
 pub checks-remainder : (p : ℕ) → p < 2 ^ 31 → checks p ≡ checks (remainder 31 p)
 unfolding agree checks remainder reduce
 checks-remainder p h = equal checks (λ p. checks (remainder 31 p)) checks-xor of-remainder 31 tt p h
+
+-- nothing is left of 0, and checks 0
+pub checks-none : checks (remainder 31 0) ≡ 0
+unfolding checks remainder reduce
+checks-none = refl

@@ -1,6 +1,6 @@
 -- Laws of codewords: each obeys the code, and a word obeys it exactly where its syndrome is 0.
 -- Assumes nothing.
-use mathlib.Core.Path.{_≡_, sym, ap, _∙_, subst}
+use mathlib.Core.Path.{_≡_, refl, sym, ap, _∙_, subst}
 use Prim.Native.Nat.{ℕ, zero, suc, _+_, _*_, _/_, _%_, _^_, _<_}
 use native.Mathlib.Nat.{pow-suc}
 use native.Mathlib.Omega.{arith}
@@ -28,6 +28,23 @@ ones-in (suc k) n h = ones-step n ∙ ap (λ (x : ℕ). n % 2 + x) (ones-in k (n
 pub weight-ones : (w : ℕ) → w < 2 ^ 32 → ones w ≡ weight w
 unfolding weight
 weight-ones w h = ones-in 32 w h
+
+-- a number without ones is 0
+ones-none : (k n : ℕ) → n < 2 ^ k → onesIn k n ≡ 0 → n ≡ 0
+unfolding onesIn
+ones-none zero n h e = omega arith
+ones-none (suc k) n h e = omega (arith, ones-none k (n / 2) (omega (arith, pow-suc 2 k)) (omega arith))
+
+pub weight-none : (w : ℕ) → w < 2 ^ 32 → weight w ≡ 0 → w ≡ 0
+unfolding weight
+weight-none w = ones-none 32 w
+
+-- a number of one bit is its own number of ones
+pub weight-bit : (o : ℕ) → o < 2 → weight o ≡ o
+unfolding weight onesIn
+weight-bit zero h = refl
+weight-bit (suc zero) h = refl
+weight-bit (suc (suc o)) h = absurd (omega arith)
 
 -- bit 32, and the ones before it
 pub weight-last : (w : ℕ) → w < 2 ^ 32 → weight w ≡ w % 2 + weight (w / 2)

@@ -1,19 +1,25 @@
 -- What the answers of a correction say, with document 01's number and place for each.
 use mathlib.Core.Option.{Option, none, some}
 use Prim.Native.Nat.{ℕ}
+use Rattle.codeword.specs.Nearest.{distance}
 use Rattle.codeword.specs.declared.Correction.{Correction}
 use Rattle.codeword.specs.declared.Correction.the-variants.{Corrected, Refused}
 
--- the answer for the corrected word, where there is one
-abbrev pub answer : Option ℕ → Correction
-answer none = Refused
-answer (some c) = Corrected (record { 0 = c })
+-- the answer for the received word w and the corrected word, where there is one: that word, and in how many bits the two differ (R-2)
+abbrev pub answer : ℕ → Option ℕ → Correction
+answer w none = Refused
+answer w (some c) = Corrected (record { 0 = c }) (distance w c)
 
 -- 20 where the single word is not correctable; 0 where nothing is declined
 abbrev pub numberOf : Correction → ℕ
 numberOf Refused = 20
-numberOf (Corrected c) = 0
+numberOf (Corrected c n) = 0
 
 -- a single word has no line or batch: the place is 0
 abbrev pub placeOf : Correction → ℕ
 placeOf r = 0
+
+-- how many bits are changed; zero where the word is refused
+abbrev pub changedOf : Correction → ℕ
+changedOf Refused = 0
+changedOf (Corrected c n) = n

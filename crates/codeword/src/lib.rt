@@ -55,21 +55,21 @@ impl Codeword {
 
 // What reading a word finds.
 pub enum Correction {
-    // The one codeword at most two bits away.
-    Corrected(Codeword),
+    // The one codeword at most two bits away, and how many bits are changed: 0, 1 or 2.
+    Corrected(Codeword, u32),
     // No codeword is at most two bits away: number 20.
     Refused,
 }
 
 // A received word corrected.
 pub fn correct(word: u32) -> Correction
-    ensures { λ r. ⌜ r ≡ answer (nearest word) ⌝ }
+    ensures { λ r. ⌜ r ≡ answer word (nearest word) ⌝ }
 {
     let checks = checks(word);
     let odd = parity(word);
     // None of bits 1 to 31 is wrong: where the parity is odd, bit 32 is.
     if checks == 0 {
-        return Correction::Corrected(Codeword(word ^ odd));
+        return Correction::Corrected(Codeword(word ^ odd), odd);
     }
     let wrong = wrong_bits(checks);
     if wrong == 0 {
@@ -81,7 +81,9 @@ pub fn correct(word: u32) -> Correction
         return Correction::Refused;
     }
     let bit_32 = one ^ odd;
-    Correction::Corrected(Codeword(word ^ wrong ^ bit_32))
+    // Some bit is wrong, and no third: where the parity is odd it is one, where it is even they are two.
+    let changed = 2 - odd;
+    Correction::Corrected(Codeword(word ^ wrong ^ bit_32), changed)
 }
 
 // The codeword of 21 information bits.

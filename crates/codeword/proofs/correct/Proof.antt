@@ -28,6 +28,9 @@ cast-one c = search needs
 returns-3 : tie.Need-returns-3
 returns-3 c = search third-bit
 
+sub-changed : tie.Need-sub-changed
+sub-changed c = search needs
+
 returns-4 : tie.Need-returns-4
 returns-4 c = search few-bits
 
@@ -43,4 +46,5 @@ correct-spec =
     sub-one
     cast-one
     returns-3
+    sub-changed
     returns-4)
