@@ -2,8 +2,9 @@
 use mathlib.Core.Path.{_≡_, refl, sym, ap, _∙_}
 use mathlib.Core.Bool.{Bool, true, false}
 use mathlib.Core.Logic.{⊎-elim, _⊎_, inl, inr}
-use Prim.Native.Nat.{ℕ, zero, suc, _+_, _≤_, _<_, zero-le, suc-le-suc}
-use native.Mathlib.Nat.{le-of-suc-le-suc, not-suc-le-zero, eq-or-lt-of-le}
+use Prim.Native.Nat.{ℕ, zero, suc, _+_, _*_, _≤_, _<_, zero-le, suc-le-suc}
+use native.Mathlib.Nat.{le-of-suc-le-suc, not-suc-le-zero, eq-or-lt-of-le, mul-suc}
+use native.Mathlib.Numerals.{add-one}
 use native.Mathlib.Omega.{arith}
 use Rattle.base.specs.Search.{least, sum}
 use Rattle.base.proofs.Bools.{true-false}
@@ -45,6 +46,24 @@ least-only p n r h =
     omega (arith, not-above p n (least p n) r (least-is p n) h, not-above p n r (least p n) h (least-is p n))
 
 -- ---- sums
+
+-- a sum as a loop makes it: of nothing, and with one more
+pub sum-none : (f : ℕ → ℕ) → 0 ≡ sum f 0
+unfolding sum
+sum-none f = refl
+
+pub sum-next : (f : ℕ → ℕ) (n : ℕ) {total x : ℕ} → total ≡ sum f n → x ≡ f n → total + x ≡ sum f (n + 1)
+unfolding sum
+sum-next f n e h = rw (add-one n, e, h)
+
+-- of numbers up to b
+pub sum-most : (f : ℕ → ℕ) (b n : ℕ) → ((k : ℕ) → f k ≤ b) → sum f n ≤ b * n
+unfolding sum
+sum-most f b zero h = zero-le
+sum-most f b (suc n) h =
+    let a : sum f n ≤ b * n = sum-most f b n h in
+    let c : f n ≤ b = h n in
+    rw (mul-suc b n) (omega arith)
 
 pub sum-cong : (f g : ℕ → ℕ) (n : ℕ) → ((k : ℕ) → k < n → f k ≡ g k) → sum f n ≡ sum g n
 unfolding sum

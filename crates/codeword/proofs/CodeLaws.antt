@@ -1,7 +1,7 @@
 -- Laws of codewords: each obeys the code, and a word obeys it exactly where its syndrome is 0.
 -- Assumes nothing.
 use mathlib.Core.Path.{_≡_, refl, sym, ap, _∙_, subst}
-use Prim.Native.Nat.{ℕ, zero, suc, _+_, _*_, _/_, _%_, _^_, _<_}
+use Prim.Native.Nat.{ℕ, zero, suc, _+_, _*_, _/_, _%_, _^_, _≤_, _<_}
 use native.Mathlib.Nat.{pow-suc}
 use native.Mathlib.Omega.{arith}
 use lib.Bits.{bitXor, xor-self, xor-shifted}
@@ -28,6 +28,16 @@ ones-in (suc k) n h = ones-step n ∙ ap (λ (x : ℕ). n % 2 + x) (ones-in k (n
 pub weight-ones : (w : ℕ) → w < 2 ^ 32 → ones w ≡ weight w
 unfolding weight
 weight-ones w h = ones-in 32 w h
+
+-- a word has at most 32 ones
+ones-few : (k n : ℕ) → onesIn k n ≤ k
+unfolding onesIn
+ones-few zero n = omega arith
+ones-few (suc k) n = omega (arith, ones-few k (n / 2))
+
+pub weight-few : (w : ℕ) → weight w ≤ 32
+unfolding weight
+weight-few = ones-few 32
 
 -- a number without ones is 0
 ones-none : (k n : ℕ) → n < 2 ^ k → onesIn k n ≡ 0 → n ≡ 0

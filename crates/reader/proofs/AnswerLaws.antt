@@ -15,11 +15,12 @@ use Rattle.listing.specs.Words.{wordsOf}
 use Rattle.listing.specs.declared.Fault as listing-fault
 use Rattle.listing.specs.declared.Listing.the-variants as listing
 use Rattle.reader.specs.Meaning.{meaning}
-use Rattle.reader.specs.Reading.{hear, readAt, ended, slotWord, heardIn}
+use Rattle.reader.specs.Reading.{hear, readAt, ended, slotWord, changesIn, heardIn}
 use Rattle.reader.specs.Lines.{linesHeard}
 use Rattle.reader.specs.Answers.{unsynced, firstUnsynced, printedInto, readBatches, readWords, faultOf, readListing}
 use Rattle.reader.specs.Symbols.{said, Tells, stateBy, heardBy}
 use Rattle.reader.specs.Progress.{KeptAll}
+use Rattle.reader.specs.declared.Changes.{Changes}
 use Rattle.reader.specs.declared.Fault.the-variants.{Malformed, TooMany, Unsynced, NoRoom}
 use Rattle.reader.specs.declared.Progress.{Progress}
 use Rattle.reader.specs.declared.Reading.the-variants.{Read, Declined}
@@ -44,17 +45,25 @@ module _ {symbols : List ℕ} {p : Progress} {lines : List ℕ} (k : KeptAll sym
   pub all-size : p .bytes ≡ length (take (p .bytes) lines)
   all-size = k .size ∙ sym (ap length (k .printed))
 
-  module _ (old : List ℕ) where
+  module _ (old : List ℕ) (changed : Changes) where
     -- they are longer than the lent slice
-    pub no-room : length old < p .bytes → Declined NoRoom ≡ printedInto (heardBy symbols) (length old)
-    no-room h = rw (lt-ltb (length old) (length (linesHeard (heardBy symbols .pages))) (omega (arith, k .size)))
+    pub no-room : length old < p .bytes → Declined NoRoom ≡ printedInto (heardBy symbols changed) (length old)
+    no-room h = rw (lt-ltb (length old) (length (linesHeard (heardBy symbols changed .pages))) (omega (arith, k .size)))
 
     -- they go over its front
-    pub all-read : p .bytes ≤ length old → Read (p .pages) (p .lost) (p .orphans) (p .bytes) ≡ printedInto (heardBy symbols) (length old)
-    all-read h = rw (le-ltb (length old) (length (linesHeard (heardBy symbols .pages))) (omega (arith, k .size)), k .pages, k .lost, k .orphans, k .size)
+    pub all-read : p .bytes ≤ length old
+        → Read (p .pages) (p .lost) (p .orphans) changed (p .bytes) ≡ printedInto (heardBy symbols changed) (length old)
+    all-read h =
+        rw (
+          le-ltb (length old) (length (linesHeard (heardBy symbols changed .pages))) (omega (arith, k .size)),
+          k .pages,
+          k .lost,
+          k .orphans,
+          k .size,
+        )
 
     pub all-copied : {out : List ℕ} → out ≡ take (length (take (p .bytes) lines)) (take (p .bytes) lines) ++ drop (length (take (p .bytes) lines)) old
-        → out ≡ over old (linesHeard (heardBy symbols .pages))
+        → out ≡ over old (linesHeard (heardBy symbols changed .pages))
     all-copied e =
         e
         ∙ ap (λ (l : List ℕ). l ++ drop (length (take (p .bytes) lines)) old) (take-length (take (p .bytes) lines))
@@ -70,10 +79,11 @@ state-same symbols word zero h = refl
 state-same symbols word (suc n) h = ap₂ (hear n) (state-same symbols word n (λ s l. h s (omega arith))) (h n (omega arith))
 
 module _ (words : List ℕ) where
-  pub heard-same : (symbols : List ℕ) → Tells words (16 * (length words / 17)) symbols → heardBy symbols ≡ heardIn words
+  pub heard-same : (symbols : List ℕ) (changed : Changes) → Tells words (16 * (length words / 17)) symbols → changed ≡ changesIn words
+      → heardBy symbols changed ≡ heardIn words
   unfolding heardIn
-  heard-same symbols t =
-      ap ended (ap (stateBy symbols) (t .count) ∙ state-same symbols (slotWord words) (16 * (length words / 17)) (t .each))
+  heard-same symbols changed t e =
+      ap₂ ended (ap (stateBy symbols) (t .count) ∙ state-same symbols (slotWord words) (16 * (length words / 17)) (t .each)) e
 
   module _ (room : ℕ) where
     pub batches-unsynced : firstUnsynced words < length words / 17 → Declined (Unsynced (firstUnsynced words + 1)) ≡ readBatches words room

@@ -1,4 +1,5 @@
 pub mod SymbolLaws
+pub mod ChangeLaws
 pub mod AnswerLaws
 pub mod Blocks
 pub mod PageLaws

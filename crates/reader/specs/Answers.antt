@@ -2,7 +2,7 @@
 use mathlib.Core.Bool.{Bool, not, cond, _||_}
 use mathlib.Core.List.{List, []}
 use Prim.Native.Nat.{ℕ, _+_, _*_, _/_, _%_}
-use lib.ListN.{length, getD}
+use lib.ListN.{length}
 use lib.Dec.{eqb, ltb}
 use Rattle.base.specs.Search.{least}
 use Rattle.codeword.specs.Nearest.{nearest}
@@ -13,7 +13,7 @@ use Rattle.listing.specs.declared.Fault.the-variants as listing-fault
 use Rattle.listing.specs.declared.Listing.{Listing}
 use Rattle.listing.specs.declared.Listing.the-variants as listing
 use Rattle.reader.specs.Meaning.{isSync}
-use Rattle.reader.specs.Reading.{Heard, heardIn}
+use Rattle.reader.specs.Reading.{Heard, syncWord, heardIn}
 use Rattle.reader.specs.Lines.{linesHeard}
 use Rattle.reader.specs.declared.Fault.{Fault}
 use Rattle.reader.specs.declared.Fault.the-variants.{Malformed, TooMany, Unsynced, NoRoom}
@@ -22,7 +22,7 @@ use Rattle.reader.specs.declared.Reading.the-variants.{Read, Declined}
 
 -- batch q, from 0, does not begin with a word that corrects to sync
 abbrev pub unsynced : List ℕ → ℕ → Bool
-unsynced words q = not (isSync (nearest (getD words (17 * q) 0)))
+unsynced words q = not (isSync (nearest (syncWord words q)))
 
 -- the first such batch, or the number of batches
 unfoldable pub firstUnsynced : List ℕ → ℕ
@@ -32,7 +32,7 @@ firstUnsynced words = least (unsynced words) (length words / 17)
 abbrev pub printedInto : Heard → ℕ → Reading
 printedInto h room =
     cond (ltb room (length (linesHeard (h .pages)))) (Declined NoRoom)
-    (Read (length (h .pages)) (h .lost) (h .orphans) (length (linesHeard (h .pages))))
+    (Read (length (h .pages)) (h .lost) (h .orphans) (h .changed) (length (linesHeard (h .pages))))
 
 -- whole batches: the first that does not begin with sync is number 22; then number 10
 unfoldable pub readBatches : List ℕ → ℕ → Reading
@@ -63,7 +63,7 @@ readListing s room = readFrom (listingOf s) (wordsOf s) room
 
 -- the lines that are written of what was heard: all, or nothing where the reading is declined
 abbrev pub linesOf : Reading → Heard → List ℕ
-linesOf (Read pages lost orphans bytes) h = linesHeard (h .pages)
+linesOf (Read pages lost orphans changed bytes) h = linesHeard (h .pages)
 linesOf (Declined why) h = []
 
 -- what is written over the front of the bytes: the lines of these words, or nothing
@@ -72,7 +72,7 @@ linesRead r words = linesOf r (heardIn words)
 
 -- the number of a reading in document 01's table, 0 where it is read
 abbrev pub numberOf : Reading → ℕ
-numberOf (Read pages lost orphans bytes) = 0
+numberOf (Read pages lost orphans changed bytes) = 0
 numberOf (Declined (Malformed line)) = 21
 numberOf (Declined (TooMany line)) = 23
 numberOf (Declined (Unsynced batch)) = 22
@@ -80,7 +80,7 @@ numberOf (Declined NoRoom) = 10
 
 -- its place: a line, 0 for words; a batch, from 1
 abbrev pub placeOf : Reading → ℕ
-placeOf (Read pages lost orphans bytes) = 0
+placeOf (Read pages lost orphans changed bytes) = 0
 placeOf (Declined (Malformed line)) = line
 placeOf (Declined (TooMany line)) = line
 placeOf (Declined (Unsynced batch)) = batch

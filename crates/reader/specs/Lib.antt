@@ -1,4 +1,5 @@
 pub mod Meaning
+pub mod Changed
 pub mod Reading
 pub mod Lines
 pub mod Answers

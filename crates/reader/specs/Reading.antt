@@ -7,6 +7,8 @@ use lib.ListN.{length, getD}
 use Rattle.codeword.specs.Nearest.{nearest}
 use Rattle.placement.specs.Placement.{frameOf}
 use Rattle.reader.specs.Meaning.{meaning}
+use Rattle.reader.specs.Changed.{slotsChanged, syncsChanged}
+use Rattle.reader.specs.declared.Changes.{Changes}
 use Rattle.reader.specs.declared.Meaning.{Meaning}
 use Rattle.reader.specs.declared.Meaning.the-variants.{Lost, Idle, Address, Message}
 
@@ -62,20 +64,32 @@ unfoldable pub readAt : (ℕ → ℕ) → ℕ → State
 readAt word zero = silent
 readAt word (suc s) = hear s (readAt word s) (meaning (nearest (word s)))
 
--- what is heard: pages, lost words and orphans
+-- what is heard: pages, lost words and orphans, and how many bits are changed. `Changes` is src/lib.rt's struct
 pub record Heard : Type 0 where
   pub pages : List Hearing
   pub lost : ℕ
   pub orphans : ℕ
+  pub changed : Changes
 
 -- the end closes an open page
-abbrev pub ended : State → Heard
-ended r = record { pages = close false (r .pages) (r .held); lost = r .lost; orphans = r .orphans }
+abbrev pub ended : State → Changes → Heard
+ended r changes = record { pages = close false (r .pages) (r .held); lost = r .lost; orphans = r .orphans; changed = changes }
 
 -- the word of slot s in batches of 17 words, sync first
 abbrev pub slotWord : List ℕ → ℕ → ℕ
 slotWord words s = getD words (17 * (s / 16) + 1 + s % 16) 0
 
+-- the sync word of batch q
+abbrev pub syncWord : List ℕ → ℕ → ℕ
+syncWord words q = getD words (17 * q) 0
+
+-- the bits changed in whole batches: in the slots and, apart, in the sync words (R-2)
+abbrev pub changesIn : List ℕ → Changes
+changesIn words = record {
+  slots = slotsChanged (slotWord words) (16 * (length words / 17));
+  syncs = syncsChanged (syncWord words) (length words / 17);
+}
+
 -- what is heard of whole batches
 unfoldable pub heardIn : List ℕ → Heard
-heardIn words = ended (readAt (slotWord words) (16 * (length words / 17)))
+heardIn words = ended (readAt (slotWord words) (16 * (length words / 17))) (changesIn words)

@@ -10,6 +10,7 @@ use Rattle.codeword.specs.Nearest.{nearest}
 use Rattle.placement.specs.Placement.{frameOf}
 use Rattle.reader.specs.Meaning.{meaning}
 use Rattle.reader.specs.Reading.{Hearing, State, Heard, hear, silent, ended, slotWord}
+use Rattle.reader.specs.declared.Changes.{Changes}
 use Rattle.reader.specs.declared.Meaning.{Meaning}
 use Rattle.reader.specs.declared.Meaning.the-variants.{Lost, Idle, Address, Message}
 
@@ -30,9 +31,9 @@ unfoldable pub stateBy : List ℕ → ℕ → State
 stateBy symbols zero = silent
 stateBy symbols (suc s) = hear s (stateBy symbols s) (said (getD symbols s 0))
 
--- what is heard of slots with these symbols
-abbrev pub heardBy : List ℕ → Heard
-heardBy symbols = ended (stateBy symbols (length symbols))
+-- what is heard of slots with these symbols, with so many bits changed
+abbrev pub heardBy : List ℕ → Changes → Heard
+heardBy symbols changes = ended (stateBy symbols (length symbols)) changes
 
 -- the groups that message words with these symbols carry
 abbrev pub groupsSaid : List ℕ → List ℕ

@@ -3,10 +3,13 @@ ghost use mathlib.Core.Path.{_≡_};
 ghost use Prim.Native.Nat.{ℕ, _+_, _*_, _/_, _≤_, _<_};
 ghost use lib.ListN.{length, getD};
 ghost use Rattle.base.specs.Lists.{over};
-ghost use Rattle.codeword.specs.Nearest.{nearest};
+ghost use Rattle.base.specs.Search.{sum};
+ghost use Rattle.codeword.specs.Code.{sync};
+ghost use Rattle.codeword.specs.Nearest.{distance, nearest};
 ghost use Rattle.listing.specs.Words.{wordsOf};
 ghost use Rattle.reader.specs.Meaning.{codewordMeaning, meaning, isSync};
-ghost use Rattle.reader.specs.Reading.{closedAs};
+ghost use Rattle.reader.specs.Changed.{slotChanged, slotsChanged};
+ghost use Rattle.reader.specs.Reading.{closedAs, slotWord, syncWord};
 ghost use Rattle.reader.specs.Lines.{kindHeard, fives, digitsHeard, lineHeard};
 ghost use Rattle.reader.specs.Answers.{firstUnsynced, printedInto, linesOf, readBatches, readWords, faultOf, readListing, linesRead, numberOf, placeOf};
 ghost use Rattle.reader.specs.Symbols.{said, Tells, stateBy, heardBy, pageIn, Printable};
@@ -39,16 +42,30 @@ pub enum Fault {
     NoRoom,
 }
 
+// How many bits are changed: in the slots' words, but for lost ones, and in the sync words.
+#[repr(C)]
+pub struct Changes {
+    pub slots: u32,
+    pub syncs: u32,
+}
+
 // What reading answers.
 pub enum Reading {
-    // Pages, lost words and orphans, and how many bytes of page lines are written.
+    // Pages, lost words and orphans, the changed bits, and how many bytes of page lines are written.
     Read {
         pages: u32,
         lost: u32,
         orphans: u32,
+        changed: Changes,
         bytes: usize,
     },
     Declined(Fault),
+}
+
+// What a received word is read as: its symbol, and how many bits are changed, none where it is lost.
+struct ReadWord {
+    symbol: u32,
+    changed: u32,
 }
 
 // What is kept of a reading before a slot.
@@ -86,24 +103,42 @@ fn symbol(c: Codeword) -> u32
     bits
 }
 
-// A received word's symbol, once corrected.
-fn read_word(word: u32) -> u32
-    ensures { λ r. ⌜ said r ≡ meaning (nearest word) ⌝ }
+// A received word, corrected.
+fn read_word(word: u32) -> ReadWord
+    ensures { λ r. ⌜ said (r .symbol) ≡ meaning (nearest word) ⌝ }
+    ensures { λ r. ⌜ r .changed ≡ slotChanged word ⌝ }
 {
-    let Correction::Corrected(c) = codeword::correct(word) else {
-        return LOST;
+    let Correction::Corrected(c, changed) = codeword::correct(word) else {
+        return ReadWord {
+            symbol: LOST,
+            changed: 0,
+        };
     };
-    symbol(c)
+    let symbol = symbol(c);
+    if LOST <= symbol {
+        return ReadWord {
+            symbol: LOST,
+            changed: 0,
+        };
+    }
+    ReadWord {
+        symbol: symbol,
+        changed: changed,
+    }
 }
 
-// Whether a word corrects to sync.
+// In how many bits a word and sync differ.
+fn from_sync(word: u32) -> u32
+    ensures { λ r. ⌜ r ≡ distance word sync ⌝ }
+{
+    u32::count_ones(word ^ Codeword::SYNC.word())
+}
+
+// Whether a word corrects to sync: whether at most two bits differ.
 fn is_sync(word: u32) -> bool
     ensures { λ r. ⌜ r ≡ isSync (nearest word) ⌝ }
 {
-    let Correction::Corrected(c) = codeword::correct(word) else {
-        return false;
-    };
-    c.is_sync()
+    from_sync(word) <= 2
 }
 
 // The first batch, from 0, whose first word does not correct to sync, or the number of batches.
@@ -121,16 +156,37 @@ fn first_unsynced(words: &[u32]) -> usize
     q
 }
 
-// The symbols of the slots of whole batches.
-fn read_slots(words: &[u32], symbols: &mut [u32])
-    requires { ⌜ length (now symbols) ≤ 16 * (length (now words) / 17) ⌝ }
-    ensures { λ _. ⌜ Tells (now (words .entry)) (length (now (symbols .entry))) (now (symbols .exit)) ⌝ }
+// In how many bits the first words of whole batches, 300 at most, and sync differ.
+fn syncs_changed(words: &[u32]) -> u32
+    requires { ⌜ length (now words) ≤ 5100 ⌝ }
+    ensures { λ r. ⌜ r ≡ sum (λ q. distance (syncWord (now (words .entry)) q) sync) (length (now (words .entry)) / 17) ⌝ }
 {
+    let batches = words.len() / 17;
+    let mut changed = 0;
+    let mut q = 0;
+    while q < batches {
+        changed += from_sync(words[17 * q]);
+        q += 1;
+    }
+    changed
+}
+
+// The symbols of the slots of whole batches, 300 at most. Answers how many bits are changed.
+fn read_slots(words: &[u32], symbols: &mut [u32]) -> u32
+    requires { ⌜ length (now symbols) ≤ 16 * (length (now words) / 17) ⌝ }
+    requires { ⌜ length (now symbols) ≤ 4800 ⌝ }
+    ensures { λ _. ⌜ Tells (now (words .entry)) (length (now (symbols .entry))) (now (symbols .exit)) ⌝ }
+    ensures { λ r. ⌜ r ≡ slotsChanged (slotWord (now (words .entry))) (length (now (symbols .entry))) ⌝ }
+{
+    let mut changed = 0;
     let mut s = 0;
     while s < symbols.len() {
-        symbols[s] = read_word(words[17 * (s / 16) + 1 + s % 16]);
+        let r = read_word(words[17 * (s / 16) + 1 + s % 16]);
+        symbols[s] = r.symbol;
+        changed += r.changed;
         s += 1;
     }
+    changed
 }
 
 // Writes five digits a group, and answers how many digits they are.
@@ -367,10 +423,16 @@ fn hear_all(symbols: &[u32], digits: &mut [u8], lines: &mut [u8]) -> Progress
 
 // Reads slots by their symbols: the lines go over the front of the lent lines first, and to the front of the bytes where there is room
 // for all of them.
-fn read_into(symbols: &[u32], digits: &mut [u8], lines: &mut [u8], out: &mut [u8]) -> Reading
+fn read_into(
+    symbols: &[u32],
+    changed: Changes,
+    digits: &mut [u8],
+    lines: &mut [u8],
+    out: &mut [u8],
+) -> Reading
     requires { ⌜ Buffers (now symbols) (now digits) (now lines) ⌝ }
-    ensures { λ r. ⌜ r ≡ printedInto (heardBy (now (symbols .entry))) (length (now (out .entry))) ⌝ }
-    ensures { λ r. ⌜ now (out .exit) ≡ over (now (out .entry)) (linesOf r (heardBy (now (symbols .entry)))) ⌝ }
+    ensures { λ r. ⌜ r ≡ printedInto (heardBy (now (symbols .entry)) changed) (length (now (out .entry))) ⌝ }
+    ensures { λ r. ⌜ now (out .exit) ≡ over (now (out .entry)) (linesOf r (heardBy (now (symbols .entry)) changed)) ⌝ }
 {
     let p = hear_all(symbols, digits, lines);
     let n = p.bytes;
@@ -382,42 +444,43 @@ fn read_into(symbols: &[u32], digits: &mut [u8], lines: &mut [u8], out: &mut [u8
         pages: p.pages,
         lost: p.lost,
         orphans: p.orphans,
+        changed: changed,
         bytes: n,
     }
 }
 
 // Reads the slots of at most 16 batches: to clear the room for 300 would take longer than to read these.
-fn read_few(symbols: &[u32], out: &mut [u8]) -> Reading
+fn read_few(symbols: &[u32], changed: Changes, out: &mut [u8]) -> Reading
     requires { ⌜ length (now symbols) ≤ 256 ⌝ }
-    ensures { λ r. ⌜ r ≡ printedInto (heardBy (now (symbols .entry))) (length (now (out .entry))) ⌝ }
-    ensures { λ r. ⌜ now (out .exit) ≡ over (now (out .entry)) (linesOf r (heardBy (now (symbols .entry)))) ⌝ }
+    ensures { λ r. ⌜ r ≡ printedInto (heardBy (now (symbols .entry)) changed) (length (now (out .entry))) ⌝ }
+    ensures { λ r. ⌜ now (out .exit) ≡ over (now (out .entry)) (linesOf r (heardBy (now (symbols .entry)) changed)) ⌝ }
 {
     let mut digits = [0u8; 2560];
     let mut lines = [0u8; 2816];
-    read_into(symbols, &mut digits, &mut lines, out)
+    read_into(symbols, changed, &mut digits, &mut lines, out)
 }
 
 // Reads the slots of at most 300 batches.
-fn read_many(symbols: &[u32], out: &mut [u8]) -> Reading
+fn read_many(symbols: &[u32], changed: Changes, out: &mut [u8]) -> Reading
     requires { ⌜ length (now symbols) ≤ 4800 ⌝ }
-    ensures { λ r. ⌜ r ≡ printedInto (heardBy (now (symbols .entry))) (length (now (out .entry))) ⌝ }
-    ensures { λ r. ⌜ now (out .exit) ≡ over (now (out .entry)) (linesOf r (heardBy (now (symbols .entry)))) ⌝ }
+    ensures { λ r. ⌜ r ≡ printedInto (heardBy (now (symbols .entry)) changed) (length (now (out .entry))) ⌝ }
+    ensures { λ r. ⌜ now (out .exit) ≡ over (now (out .entry)) (linesOf r (heardBy (now (symbols .entry)) changed)) ⌝ }
 {
     let mut digits = [0u8; 48000];
     let mut lines = [0u8; 52800];
-    read_into(symbols, &mut digits, &mut lines, out)
+    read_into(symbols, changed, &mut digits, &mut lines, out)
 }
 
 // Reads slots by their symbols: the lines go to the front of the bytes, where there is room for all of them.
-fn read_symbols(symbols: &[u32], out: &mut [u8]) -> Reading
+fn read_symbols(symbols: &[u32], changed: Changes, out: &mut [u8]) -> Reading
     requires { ⌜ length (now symbols) ≤ 4800 ⌝ }
-    ensures { λ r. ⌜ r ≡ printedInto (heardBy (now (symbols .entry))) (length (now (out .entry))) ⌝ }
-    ensures { λ r. ⌜ now (out .exit) ≡ over (now (out .entry)) (linesOf r (heardBy (now (symbols .entry)))) ⌝ }
+    ensures { λ r. ⌜ r ≡ printedInto (heardBy (now (symbols .entry)) changed) (length (now (out .entry))) ⌝ }
+    ensures { λ r. ⌜ now (out .exit) ≡ over (now (out .entry)) (linesOf r (heardBy (now (symbols .entry)) changed)) ⌝ }
 {
     if symbols.len() <= 256 {
-        return read_few(symbols, out);
+        return read_few(symbols, changed, out);
     }
-    read_many(symbols, out)
+    read_many(symbols, changed, out)
 }
 
 // Room for the symbols of 300 batches.
@@ -434,12 +497,16 @@ fn read_batches(words: &[u32], out: &mut [u8]) -> Reading
     let batches = words.len() / 17;
     let first = first_unsynced(words);
     if first < batches {
-        return Reading::Declined(Fault::Unsynced(first + 1));
+        let batch = first + 1;
+        return Reading::Declined(Fault::Unsynced(batch));
     }
     let mut symbols = blank_symbols();
     let slots = 16 * batches;
-    read_slots(words, &mut symbols[..slots]);
-    read_symbols(&symbols[..slots], out)
+    let changed = Changes {
+        slots: read_slots(words, &mut symbols[..slots]),
+        syncs: syncs_changed(words),
+    };
+    read_symbols(&symbols[..slots], changed, out)
 }
 
 // Reads a slice of words, batches only: the lines of the pages go to the front of the bytes, and what stands behind them keeps its value.
@@ -504,6 +571,7 @@ pub fn number(r: Reading) -> u32
             pages: _,
             lost: _,
             orphans: _,
+            changed: _,
             bytes: _,
         } => 0,
         Reading::Declined(why) => match why {
@@ -524,6 +592,7 @@ pub fn place(r: Reading) -> usize
             pages: _,
             lost: _,
             orphans: _,
+            changed: _,
             bytes: _,
         } => 0,
         Reading::Declined(why) => match why {

@@ -22,7 +22,9 @@ same-length-2 : tie.Need-same-length-2
 same-length-2 c = search needs
 
 returns : tie.Need-returns
-returns c = (no-room (kept (c .before .before .before .before .before)) (now (c .before .before .before .before .before .before .before .before .before .before .before .before .args .out)) (c .if1 .taken), refl)
+returns c =
+    let a = c .before .before .before .before .before .before .before .before .before .before .before .before .args in
+    (no-room (kept (c .before .before .before .before .before)) (now (a .out)) (a .changed) (c .if1 .taken), refl)
 
 slice-reshare-prefix-copy : tie.Need-slice-reshare-prefix-copy
 slice-reshare-prefix-copy c = all-inside (kept (c .before .before .before .before .before))
@@ -45,8 +47,9 @@ same-length-5 c = search needs
 returns-2 : tie.Need-returns-2
 returns-2 c =
     let heard = kept (c .before .before .before .before .before .before .before .before .before .before) in
-    let old = now (c .before .before .before .before .before .before .before .before .before .before .before .before .before .before .before .before .before .args .out) in
-    (all-read heard old (c .before .before .before .before .before .if1 .left), all-copied heard old (c .before .before .copy .ensures .1))
+    let a = c .before .before .before .before .before .before .before .before .before .before .before .before .before .before .before .before .before .args in
+    let old = now (a .out) in
+    (all-read heard old (a .changed) (c .before .before .before .before .before .if1 .left), all-copied heard old (a .changed) (c .before .before .copy .ensures .1))
 
 pub read-into-spec : {M : Type 1} → statement M
 read-into-spec =

@@ -1,0 +1,31 @@
+-- How many bits are changed in the words that are read (R-2).
+use Prim.Native.Nat.{ℕ}
+use Rattle.base.specs.Search.{sum}
+use Rattle.codeword.specs.Answer.{answer, changedOf}
+use Rattle.codeword.specs.Nearest.{nearest}
+use Rattle.reader.specs.Meaning.{meaning}
+use Rattle.reader.specs.declared.Meaning.{Meaning}
+use Rattle.reader.specs.declared.Meaning.the-variants.{Lost, Idle, Address, Message}
+
+-- in a word
+abbrev pub changed : ℕ → ℕ
+changed w = changedOf (answer w (nearest w))
+
+-- a lost word counts zero, whatever was mended in it
+abbrev pub unlessLost : Meaning → ℕ → ℕ
+unlessLost Lost n = 0
+unlessLost Idle n = n
+unlessLost (Address u f) n = n
+unlessLost (Message b) n = n
+
+-- in the word of a slot
+unfoldable pub slotChanged : ℕ → ℕ
+slotChanged w = unlessLost (meaning (nearest w)) (changed w)
+
+-- in the words of the first n slots
+abbrev pub slotsChanged : (ℕ → ℕ) → ℕ → ℕ
+slotsChanged word n = sum (λ s. slotChanged (word s)) n
+
+-- in the first n sync words
+abbrev pub syncsChanged : (ℕ → ℕ) → ℕ → ℕ
+syncsChanged word n = sum (λ q. changed (word q)) n
