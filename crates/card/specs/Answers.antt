@@ -1,6 +1,8 @@
 -- The library's answers as C has them: numbers only. A number is that of document 01's table, 0 where nothing is declined; a place is its place.
 use Prim.Native.Nat.{ℕ}
-use mathlib.Core.Option.{Option, none, some}
+use Rattle.codeword.specs.Answer as correction
+use Rattle.codeword.specs.declared.Correction.{Correction}
+use Rattle.codeword.specs.declared.Correction.the-variants as correction-variants
 use Rattle.job.specs.Refusal.{jobNumber, jobPlace}
 use Rattle.job.specs.declared.JobAnswer.{JobAnswer}
 use Rattle.job.specs.declared.JobAnswer.the-variants.{Accepted, Refused}
@@ -10,6 +12,7 @@ use Rattle.job_listing.specs.Listed as listed
 use Rattle.job_listing.specs.declared.Listed.{Listed}
 use Rattle.job_listing.specs.declared.Listed.the-variants as listed-variants
 use Rattle.reader.specs.Answers as reading
+use Rattle.reader.specs.declared.Changes.{Changes}
 use Rattle.reader.specs.declared.Reading.{Reading}
 use Rattle.reader.specs.declared.Reading.the-variants as reading-variants
 use Rattle.sender.specs.Answer as step
@@ -23,10 +26,13 @@ use Rattle.card.specs.declared.CardReading.{CardReading}
 use Rattle.card.specs.declared.CardRefusal.{CardRefusal}
 use Rattle.card.specs.declared.CardStep.{CardStep}
 
--- a word by its nearest codeword, or itself and number 20 where there is none
-abbrev pub wordFor : ℕ → Option ℕ → CardWord
-wordFor w none = record { word = w; number = 20 }
-wordFor w (some c) = record { word = c; number = 0 }
+-- the corrected word, or the received one where it is refused
+abbrev pub wordRead : ℕ → Correction → ℕ
+wordRead w (correction-variants.Corrected c n) = c .0
+wordRead w correction-variants.Refused = w
+
+abbrev pub wordFor : ℕ → Correction → CardWord
+wordFor w a = record { word = wordRead w a; number = correction.numberOf a; changed = correction.changedOf a }
 
 -- a job's report; the counts of a declined one are zero
 abbrev pub reportFor : Report → CardReport
@@ -43,20 +49,24 @@ bytesFor a = record { place = listed.placeOf a; bytes = bytesOf a; number = list
 
 -- a reading's counts: zero where it is declined
 abbrev pub bytesRead : Reading → ℕ
-bytesRead (reading-variants.Read pages lost orphans bytes) = bytes
+bytesRead (reading-variants.Read pages lost orphans changed bytes) = bytes
 bytesRead (reading-variants.Declined why) = 0
 
 abbrev pub pagesRead : Reading → ℕ
-pagesRead (reading-variants.Read pages lost orphans bytes) = pages
+pagesRead (reading-variants.Read pages lost orphans changed bytes) = pages
 pagesRead (reading-variants.Declined why) = 0
 
 abbrev pub lostRead : Reading → ℕ
-lostRead (reading-variants.Read pages lost orphans bytes) = lost
+lostRead (reading-variants.Read pages lost orphans changed bytes) = lost
 lostRead (reading-variants.Declined why) = 0
 
 abbrev pub orphansRead : Reading → ℕ
-orphansRead (reading-variants.Read pages lost orphans bytes) = orphans
+orphansRead (reading-variants.Read pages lost orphans changed bytes) = orphans
 orphansRead (reading-variants.Declined why) = 0
+
+abbrev pub changedRead : Reading → Changes
+changedRead (reading-variants.Read pages lost orphans changed bytes) = changed
+changedRead (reading-variants.Declined why) = record { slots = 0; syncs = 0 }
 
 abbrev pub readingFor : Reading → CardReading
 readingFor r =
@@ -67,6 +77,7 @@ readingFor r =
       pages = pagesRead r;
       lost = lostRead r;
       orphans = orphansRead r;
+      changed = changedRead r;
     }
 
 -- the answer to a job whose sending is to start

@@ -2,6 +2,7 @@
 ghost use mathlib.Core.Path.{_≡_};
 ghost use lib.ListN.{length};
 ghost use Rattle.base.specs.Lists.{over};
+ghost use Rattle.codeword.specs.Answer.{answer};
 ghost use Rattle.codeword.specs.Nearest.{nearest};
 ghost use Rattle.transmission.specs.Sending.{sendingsOf};
 ghost use Rattle.transmission.specs.Report.{reportOf, wordsSent, slotsSent};
@@ -14,6 +15,7 @@ ghost use Rattle.card.specs.Answers.{wordFor, reportFor, bytesFor, readi
 use codeword::Correction;
 use job::JobAnswer;
 use job_listing::Listed;
+use reader::Changes;
 use reader::Reading;
 use sender::Answer;
 use sender::Cursor;
@@ -21,11 +23,12 @@ use sender::PageTable;
 use sender::Sender;
 use transmission::Report;
 
-// A word, and 0 or 20.
+// A word, 0 or 20, and how many bits are changed.
 #[repr(C)]
 pub struct CardWord {
     pub word: u32,
     pub number: u32,
+    pub changed: u32,
 }
 
 // A job's report.
@@ -54,6 +57,7 @@ pub struct CardReading {
     pub pages: u32,
     pub lost: u32,
     pub orphans: u32,
+    pub changed: Changes,
 }
 
 // A number and its place.
@@ -82,17 +86,19 @@ struct Begun {
 // The codeword at most two bits away from a word, or the word itself and number 20.
 #[no_mangle]
 pub extern "C" fn card_correct(word: u32) -> CardWord
-    ensures { λ r. ⌜ r ≡ wordFor word (nearest word) ⌝ }
+    ensures { λ r. ⌜ r ≡ wordFor word (answer word (nearest word)) ⌝ }
 {
-    let Correction::Corrected(c) = codeword::correct(word) else {
+    let Correction::Corrected(c, changed) = codeword::correct(word) else {
         return CardWord {
             word: word,
             number: 20,
+            changed: 0,
         };
     };
     CardWord {
         word: c.word(),
         number: 0,
+        changed: changed,
     }
 }
 
@@ -181,6 +187,7 @@ fn reading_numbers(r: Reading) -> CardReading
             pages,
             lost,
             orphans,
+            changed,
             bytes,
         } => CardReading {
             place: place,
@@ -189,6 +196,7 @@ fn reading_numbers(r: Reading) -> CardReading
             pages: pages,
             lost: lost,
             orphans: orphans,
+            changed: changed,
         },
         Reading::Declined(_) => CardReading {
             place: place,
@@ -197,6 +205,7 @@ fn reading_numbers(r: Reading) -> CardReading
             pages: 0,
             lost: 0,
             orphans: 0,
+            changed: Changes { slots: 0, syncs: 0 },
         },
     }
 }

@@ -14,6 +14,7 @@ fn read(listing: &[u8]) {
         pages: _,
         lost: _,
         orphans: _,
+        changed: _,
         bytes,
     } = answer {
         program::print_front(&out, bytes);

@@ -1,11 +1,19 @@
 -- `card::card_correct` meets its contract. Assumes nothing.
-use mathlib.Core.Path.{_∙_, sym, ap}
-use Rattle.codeword.specs.Nearest.{nearest}
-use Rattle.codeword.proofs.AnswerLaws.{answer-corrected, answer-refused}
+use mathlib.Core.Path.{_≡_, sym, ap, _∙_}
+use Prim.Native.Nat.{ℕ}
+use Rattle.codeword.specs.declared.Codeword.{Codeword}
+use Rattle.codeword.specs.declared.Correction.{Correction}
+use Rattle.codeword.specs.declared.Correction.the-variants.{Corrected}
+use Rattle.card.specs.declared.CardWord.{CardWord}
 use Rattle.card.specs.Answers.{wordFor}
 use borrow.Author.Needs.{needs}
 use Rattle.card.proofs.card_correct.Statement.{statement}
 use Rattle.card.proofs.card_correct.Tie as tie
+
+-- the answer with the codeword as a number
+made : (w : ℕ) {c : Codeword} {a : Correction} {x n : ℕ} → x ≡ c .0 → Corrected c n ≡ a
+    → _≡_ {A = CardWord} (record { word = x; number = 0; changed = n }) (wordFor w a)
+made w {c} {a} {x} {n} e f = (λ i. record { word = e i; number = 0; changed = n }) ∙ ap (wordFor w) f
 
 correct-requires : tie.Need-correct-requires
 correct-requires c κs = search needs
@@ -17,9 +25,7 @@ enum-told : tie.Need-enum-told
 enum-told c = search needs
 
 returns : tie.Need-returns
-returns c =
-    let w = c .before .before .before .args .word in
-    sym (ap (wordFor w) (answer-refused (nearest w) (sym (c .enum-told .given .1) ∙ c .before .before .correct .ensures)))
+returns c = ap (wordFor (c .before .before .before .args .word)) (sym (c .enum-told .given .1) ∙ c .before .before .correct .ensures)
 
 word-requires : tie.Need-word-requires
 word-requires c κs = search needs
@@ -27,9 +33,7 @@ word-requires c κs = search needs
 returns-2 : tie.Need-returns-2
 returns-2 c =
     let m = c .before .before .before .before in
-    let w = m .before .args .word in
-    let e = answer-corrected (nearest w) _ (sym (c .before .before .c .given .1) ∙ m .correct .ensures) in
-    (λ i. record { word = c .word .ensures i; number = 0 }) ∙ sym (ap (wordFor w) e)
+    made (m .before .args .word) (c .word .ensures) (sym (c .before .before .c .given .1) ∙ m .correct .ensures)
 
 pub card-correct-spec : {M : Type 1} → statement M
 card-correct-spec =

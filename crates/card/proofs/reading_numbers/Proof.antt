@@ -4,14 +4,14 @@ use Prim.Native.Nat.{ℕ}
 use Rattle.reader.specs.Answers.{placeOf, numberOf}
 use Rattle.reader.specs.declared.Reading.{Reading}
 use Rattle.card.specs.declared.CardReading.{CardReading}
-use Rattle.card.specs.Answers.{bytesRead, pagesRead, lostRead, orphansRead, readingFor}
+use Rattle.card.specs.Answers.{bytesRead, pagesRead, lostRead, orphansRead, changedRead, readingFor}
 use borrow.Author.Needs.{needs}
 use Rattle.card.proofs.reading_numbers.Statement.{statement}
 use Rattle.card.proofs.reading_numbers.Tie as tie
 
 -- the answer where the reading is known to be s
 made : {r s : Reading} {place number : ℕ} → r ≡ s → place ≡ placeOf r → number ≡ numberOf r
-    → _≡_ {A = CardReading} (record { place = place; bytes = bytesRead s; number = number; pages = pagesRead s; lost = lostRead s; orphans = orphansRead s }) (readingFor r)
+    → _≡_ {A = CardReading} (record { place = place; bytes = bytesRead s; number = number; pages = pagesRead s; lost = lostRead s; orphans = orphansRead s; changed = changedRead s }) (readingFor r)
 made e p n =
     λ i. record {
       place = p i;
@@ -20,6 +20,7 @@ made e p n =
       pages = sym (ap pagesRead e) i;
       lost = sym (ap lostRead e) i;
       orphans = sym (ap orphansRead e) i;
+      changed = sym (ap changedRead e) i;
     }
 
 place-requires : tie.Need-place-requires
