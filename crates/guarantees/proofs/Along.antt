@@ -14,6 +14,7 @@ use Rattle.transmission.specs.Sending.{Sending, placementOf}
 use Rattle.reader.specs.Meaning.{meaning}
 use Rattle.reader.specs.Reading as reading
 use Rattle.reader.specs.Reading.{readAt, ended}
+use Rattle.reader.specs.declared.Changes.{Changes}
 use Rattle.guarantees.specs.Order.{orderTo, order}
 use Rattle.guarantees.specs.Transport.{orphaned, lostTo, orphansTo, heardBut}
 use Rattle.guarantees.proofs.SoFar.{SoFar, closed, saidIn, turned, all-closed, lost-more, orphans-more}
@@ -45,9 +46,10 @@ module _ (lost : ℕ → Bool) (xs : List Sending) (framed : Framed (placementOf
       })
 
   -- behind the last slot there is nothing to lose
-  pub heard-along : n ≡ 16 * batches (placementOf xs) → lost n ≡ false → ended (readAt word n) ≡ heardBut lost xs
+  pub heard-along : (changes : Changes) → n ≡ 16 * batches (placementOf xs) → lost n ≡ false
+      → ended (readAt word n) changes ≡ heardBut lost xs changes
   unfolding heardBut order
-  heard-along e z =
+  heard-along changes e z =
       let job = placementOf xs in
       let r = along n (omega arith) in
       let left : stateAt job n .left ≡ 0 = ap (λ (m : ℕ). stateAt job m .left) e ∙ done job framed .0 in

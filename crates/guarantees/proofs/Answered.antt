@@ -47,9 +47,9 @@ module _ (words : List ℕ) (b room : ℕ) (e : length words ≡ 17 * b) (synced
 
 -- ---- an answer by its room
 
--- what was heard is given: its lines, and its numbers of pages, lost words and orphans
+-- what was heard is given: its lines, and its numbers of pages, lost words, orphans and changed bits
 abbrev pub GivesHeard : Heard → ℕ → Reading → List ℕ → Type 0
-GivesHeard h room answer words = Gives (linesHeard (h .pages)) (length (h .pages)) (h .lost) (h .orphans) room answer words
+GivesHeard h room answer words = Gives (linesHeard (h .pages)) (length (h .pages)) (h .lost) (h .orphans) (h .changed) room answer words
 
 gives : (h : Heard) (room : ℕ) (words : List ℕ) → heardIn words ≡ h → GivesHeard h room (printedInto h room) words
 gives h room words e =

@@ -13,10 +13,11 @@ use Rattle.transmission.specs.Report.{reportOf}
 use Rattle.transmission.specs.declared.Report.the-variants.{Sent}
 use Rattle.transmission.proofs.Sendings.{sendable, accepted-sendings}
 use Rattle.transmission.proofs.TransmissionLaws.{transmission-length}
+use Rattle.reader.specs.Reading.{Heard}
 use Rattle.reader.specs.Lines.{linesHeard}
 use Rattle.reader.specs.declared.Reading.{Reading}
 use Rattle.guarantees.specs.Order.{InOrder}
-use Rattle.guarantees.specs.Transport.{Received, hearingOf, asSent}
+use Rattle.guarantees.specs.Transport.{Received, flipsIn, hearingOf, asSent}
 use Rattle.guarantees.specs.Demand2.{pageLine, inSlotOrder, linesInOrder, GivesBack, SamePages, Demand2, wordsLeft, SentThenRead}
 use Rattle.guarantees.proofs.Order.{in-order}
 use Rattle.guarantees.proofs.Counts.{page-count}
@@ -32,29 +33,34 @@ module _ (s : List ℕ) (n : ℕ) (ok : jobOf s ≡ Accepted n) where
   pub ordered : InOrder (placementOf (sendingsOf s)) (inSlotOrder s)
   ordered = in-order (placementOf (sendingsOf s)) (sendable (accepted-sendings s n ok) .framed)
 
-  all-lines : linesHeard (asSent (sendingsOf s) .pages) ≡ linesInOrder s
-  unfolding asSent
-  all-lines =
-      lines-are (λ p. hearingOf (sendingAt (sendingsOf s) p)) (pageLine s) (inSlotOrder s)
-      (λ k l. line-back s n ok (getD (inSlotOrder s) k 0) (omega (arith, ordered .only k l, page-count s n ok)))
+  module _ (words : List ℕ) where
+    abbrev heard : Heard
+    heard = asSent (sendingsOf s) (flipsIn (sendingsOf s) words)
 
-  all-pages : length (asSent (sendingsOf s) .pages) ≡ n
-  unfolding asSent
-  all-pages = length-map (inSlotOrder s) (λ p. hearingOf (sendingAt (sendingsOf s) p)) ∙ ordered .once ∙ page-count s n ok
+    all-lines : linesHeard (heard .pages) ≡ linesInOrder s
+    unfolding asSent
+    all-lines =
+        lines-are (λ p. hearingOf (sendingAt (sendingsOf s) p)) (pageLine s) (inSlotOrder s)
+        (λ k l. line-back s n ok (getD (inSlotOrder s) k 0) (omega (arith, ordered .only k l, page-count s n ok)))
 
-  gives-back : (room : ℕ) (answer : Reading) (words : List ℕ) → GivesHeard (asSent (sendingsOf s)) room answer words → GivesBack s n room answer words
-  unfolding asSent
-  gives-back room answer words g = rw (all-lines, all-pages) at g
+    all-pages : length (heard .pages) ≡ n
+    unfolding asSent
+    all-pages = length-map (inSlotOrder s) (λ p. hearingOf (sendingAt (sendingsOf s) p)) ∙ ordered .once ∙ page-count s n ok
 
-  same-pages : (words : List ℕ) {most : ℕ} → Received most (transmissionOf (sendingsOf s)) words → most ≤ 2 → SamePages s n words
-  same-pages words {most} rec few =
-      let xs = sendingsOf s in
-      let t = heard-as-sent xs (accepted-sendings s n ok) most few words rec in
-      record {
-        in-order = ordered;
-        from-words = λ room. gives-back room _ _ (from-words xs (accepted-sendings s n ok) most words rec (asSent xs) t room);
-        from-listing = λ room. gives-back room _ _ (from-listing xs (accepted-sendings s n ok) most words rec (asSent xs) t room);
-      }
+    gives-back : (room : ℕ) (answer : Reading) (behind : List ℕ) → GivesHeard heard room answer behind → GivesBack s n words room answer behind
+    unfolding asSent
+    gives-back room answer behind g = rw (all-lines, all-pages) at g
+
+    same-pages : {most : ℕ} → Received most (transmissionOf (sendingsOf s)) words → most ≤ 2 → SamePages s n words
+    same-pages {most} rec few =
+        let xs = sendingsOf s in
+        let a = accepted-sendings s n ok in
+        let t = heard-as-sent xs a most few words rec in
+        record {
+          in-order = ordered;
+          from-words = λ room. gives-back room _ _ (from-words xs a most words rec heard t room);
+          from-listing = λ room. gives-back room _ _ (from-listing xs a most words rec heard t room);
+        }
 
 pub demand2 : Demand2
 demand2 s n ok words rec = same-pages s n ok words rec (omega arith)

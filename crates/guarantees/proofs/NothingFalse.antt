@@ -16,9 +16,10 @@ use Rattle.transmission.specs.Sending.{Sending, sendingsOf, placementOf}
 use Rattle.transmission.specs.Transmission.{transmissionOf}
 use Rattle.transmission.proofs.Sendings.{accepted-sendings}
 use Rattle.reader.specs.Meaning.{meaning}
+use Rattle.reader.specs.Reading.{Heard}
 use Rattle.reader.specs.declared.Meaning.the-variants.{Lost}
 use Rattle.reader.specs.declared.Reading.{Reading}
-use Rattle.guarantees.specs.Transport.{Received, isRead, hearingIn, heardBut}
+use Rattle.guarantees.specs.Transport.{Received, flipsBut, isRead, hearingIn, heardBut}
 use Rattle.guarantees.specs.Demand2.{inSlotOrder}
 use Rattle.guarantees.specs.Demand3.{wordIn}
 use Rattle.guarantees.specs.NothingFalse.{slotCount, addressSlot, slotFlips, slotLost, Logged, GivesLog, NothingFalse, ThreeWrongBits}
@@ -62,7 +63,10 @@ module _ (s : List ℕ) (n : ℕ) (ok : jobOf s ≡ Accepted n) (words : List �
 
   -- ---- what is read
 
-  gives-log : (room : ℕ) (answer : Reading) (behind : List ℕ) → GivesHeard (heardBut (slotLost s words) xs) room answer behind
+  abbrev heard : Heard
+  heard = heardBut (slotLost s words) xs (flipsBut (slotLost s words) xs words)
+
+  gives-log : (room : ℕ) (answer : Reading) (behind : List ℕ) → GivesHeard heard room answer behind
       → GivesLog s words (lineRead s words) pages room answer behind
   unfolding heardBut
   gives-log room answer behind g =
@@ -78,7 +82,6 @@ module _ (s : List ℕ) (n : ℕ) (ok : jobOf s ≡ Accepted n) (words : List �
     all-true : NothingFalse s n words
     all-true =
         let a = accepted-sendings s n ok in
-        let h = heardBut (slotLost s words) xs in
         let t = heard-but xs a most three words rec in
         record {
           lost = three-lost;
@@ -86,8 +89,8 @@ module _ (s : List ℕ) (n : ℕ) (ok : jobOf s ≡ Accepted n) (words : List �
           line = lineRead s words;
           logged = logged;
           lines = λ i l f. line-of s n ok most three words rec i l f;
-          from-words = λ room. gives-log room _ _ (from-words xs a most words rec h t room);
-          from-listing = λ room. gives-log room _ _ (from-listing xs a most words rec h t room);
+          from-words = λ room. gives-log room _ _ (from-words xs a most words rec heard t room);
+          from-listing = λ room. gives-log room _ _ (from-listing xs a most words rec heard t room);
         }
 
 pub nothing-false : ThreeWrongBits

@@ -1,15 +1,15 @@
 -- What the words received for a transmission say: what was sent, up to two flips; nothing, with three. Assumes nothing.
 use mathlib.Core.Path.{_≡_, refl, ap, _∙_}
-use mathlib.Core.Bool.{Bool, true, false}
+use mathlib.Core.Bool.{Bool, true, false, cond}
 use mathlib.Core.List.{List}
 use mathlib.Core.Logic.{⊎-elim}
-use mathlib.Core.Option.{some}
+use mathlib.Core.Option.{none, some}
 use Prim.Native.Nat.{ℕ, _+_, _*_, _/_, _%_, _^_, _≤_, _<_}
 use native.Mathlib.Omega.{arith}
 use lib.ListN.{length, getD, drop, length-drop, List·getD-eq-default}
 use lib.Seq.{getD-drop}
 use borrow.Author.Tests.{ltb-true, ltb-false}
-use Rattle.base.proofs.SearchLaws.{le-or-lt}
+use Rattle.base.proofs.SearchLaws.{le-or-lt, sum-cong}
 use Rattle.codeword.specs.Code.{sync}
 use Rattle.codeword.specs.Nearest.{distance, nearest}
 use Rattle.codeword.proofs.NearestLaws.{distance-self}
@@ -20,10 +20,11 @@ use Rattle.transmission.specs.Transmitted.{slotIndex}
 use Rattle.transmission.proofs.Sendings.{sendings-placed}
 use Rattle.transmission.proofs.TransmissionLaws.{word-in, slot-word, transmission-length, transmission-at, transmission-fits}
 use Rattle.reader.specs.Meaning.{meaning}
-use Rattle.reader.specs.Reading.{slotWord}
+use Rattle.reader.specs.Changed.{changed, unlessLost, slotChanged}
+use Rattle.reader.specs.Reading.{slotWord, syncWord, changesIn}
 use Rattle.reader.specs.Answers.{unsynced}
-use Rattle.guarantees.specs.Transport.{flipCount, Received, lostAt}
-use Rattle.guarantees.proofs.Words.{says, corrected, refused, sync-corrected}
+use Rattle.guarantees.specs.Transport.{flipCount, Received, lostAt, flipsBut}
+use Rattle.guarantees.proofs.Words.{says, not-lost, corrected, refused, sync-corrected}
 use Rattle.guarantees.proofs.SoFar.{saidIn}
 
 -- a word that isn't there has no flips
@@ -54,20 +55,29 @@ module _ (xs : List Sending) (most : ℕ) (words : List ℕ) (rec : Received mos
 
   -- ---- the syncs
 
-  says-sync : (q : ℕ) → q < batches (placementOf xs) → nearest (getD (drop 18 words) (17 * q) 0) ≡ some sync
-  unfolding batchWord
-  says-sync q l =
-      let inside : 18 + 17 * q < length words = omega (arith, size) in
-      let same : 18 + 17 * q ≡ 18 + 17 * q + 0 = omega arith in
-      let sent : getD (transmissionOf xs) (18 + 17 * q) 0 ≡ sync =
-      transmission-at (codewordsOf xs) (placementOf xs) (18 + 17 * q) (omega arith)
-      ∙ ap (wordAt (codewordsOf xs) (placementOf xs)) same
-      ∙ word-in (codewordsOf xs) (placementOf xs) q 0 (omega arith) in
-      rw (getD-drop 18 words (17 * q) 0)
-      (sync-corrected (getD words (18 + 17 * q) 0) (rec .fits (18 + 17 * q) inside) (rw (← sent) (omega (arith, rec .syncs q inside))))
+  module _ (q : ℕ) (l : q < batches (placementOf xs)) where
+    sent-sync : getD (transmissionOf xs) (18 + 17 * q) 0 ≡ sync
+    unfolding batchWord
+    sent-sync =
+        let same : 18 + 17 * q ≡ 18 + 17 * q + 0 = omega arith in
+        transmission-at (codewordsOf xs) (placementOf xs) (18 + 17 * q) (omega arith)
+        ∙ ap (wordAt (codewordsOf xs) (placementOf xs)) same
+        ∙ word-in (codewordsOf xs) (placementOf xs) q 0 (omega arith)
 
-  pub all-synced : (q : ℕ) → q < batches (placementOf xs) → unsynced (drop 18 words) q ≡ false
-  all-synced q l = rw (says-sync q l)
+    sync-flips : distance (syncWord (drop 18 words) q) sync ≡ flipCount (transmissionOf xs) words (18 + 17 * q)
+    sync-flips = rw (getD-drop 18 words (17 * q) 0, sent-sync)
+
+    says-sync : nearest (syncWord (drop 18 words) q) ≡ some sync
+    says-sync =
+        let inside : 18 + 17 * q < length words = omega (arith, size) in
+        sync-corrected (syncWord (drop 18 words) q) (rw (getD-drop 18 words (17 * q) 0) (rec .fits (18 + 17 * q) inside))
+        (omega (arith, sync-flips, rec .syncs q inside))
+
+    pub all-synced : unsynced (drop 18 words) q ≡ false
+    all-synced = rw says-sync
+
+    changed-sync : changed (syncWord (drop 18 words) q) ≡ flipCount (transmissionOf xs) words (18 + 17 * q)
+    changed-sync = rw says-sync sync-flips
 
   -- ---- the word of a slot, and the one that was sent
 
@@ -75,27 +85,60 @@ module _ (xs : List Sending) (most : ℕ) (words : List ℕ) (rec : Received mos
     abbrev c : Content
     c = contentAt (placementOf xs) s
 
+    abbrev w : ℕ
+    w = slotWord (drop 18 words) s
+
     sent-word : getD (transmissionOf xs) (slotIndex s) 0 ≡ codewordIn (codewordsOf xs) c
     sent-word = transmission-at (codewordsOf xs) (placementOf xs) (slotIndex s) (omega arith) ∙ slot-word (codewordsOf xs) (placementOf xs) s
 
-    word-fits : slotWord (drop 18 words) s < 2 ^ 32
+    word-fits : w < 2 ^ 32
     word-fits = rw (received-word words s) (rec .fits (slotIndex s) (omega (arith, size)))
 
-    word-flips : distance (slotWord (drop 18 words) s) (codewordIn (codewordsOf xs) c) ≡ flipCount (transmissionOf xs) words (slotIndex s)
+    word-flips : distance w (codewordIn (codewordsOf xs) c) ≡ flipCount (transmissionOf xs) words (slotIndex s)
     word-flips = rw (received-word words s, sent-word)
 
-    pub says-slot : AllAllowed xs → most ≤ 3 → meaning (nearest (slotWord (drop 18 words) s)) ≡ saidIn (lostAt (transmissionOf xs) words s) xs c
-    says-slot a m = go (lostAt (transmissionOf xs) words s) refl
-      where
-        go : (b : Bool) → lostAt (transmissionOf xs) words s ≡ b → meaning (nearest (slotWord (drop 18 words) s)) ≡ saidIn b xs c
-        go true e =
-            let three : distance (slotWord (drop 18 words) s) (codewordIn (codewordsOf xs) c) ≡ 3 =
-            omega (arith, word-flips, few-flips s, ltb-true 2 (flipCount (transmissionOf xs) words (slotIndex s)) e) in
-            ap meaning (refused xs c (slotWord (drop 18 words) s) word-fits three)
-        go false e =
-            let near : distance (slotWord (drop 18 words) s) (codewordIn (codewordsOf xs) c) ≤ 2 =
-            omega (arith, word-flips, ltb-false 2 (flipCount (transmissionOf xs) words (slotIndex s)) e) in
-            ap meaning (corrected xs c (slotWord (drop 18 words) s) word-fits near) ∙ says a s c (sendings-placed a .only s)
+    -- it is lost, or corrected to that one
+    gone : most ≤ 3 → lostAt (transmissionOf xs) words s ≡ true → nearest w ≡ none
+    gone m e =
+        refused xs c w word-fits
+        (omega (arith, word-flips, few-flips s, ltb-true 2 (flipCount (transmissionOf xs) words (slotIndex s)) e))
+
+    kept : lostAt (transmissionOf xs) words s ≡ false → nearest w ≡ some (codewordIn (codewordsOf xs) c)
+    kept e =
+        corrected xs c w word-fits
+        (omega (arith, word-flips, ltb-false 2 (flipCount (transmissionOf xs) words (slotIndex s)) e))
+
+    module _ (a : AllAllowed xs) (m : most ≤ 3) where
+      pub says-slot : meaning (nearest w) ≡ saidIn (lostAt (transmissionOf xs) words s) xs c
+      says-slot = go (lostAt (transmissionOf xs) words s) refl
+        where
+          go : (b : Bool) → lostAt (transmissionOf xs) words s ≡ b → meaning (nearest w) ≡ saidIn b xs c
+          go true e = ap meaning (gone m e)
+          go false e = ap meaning (kept e) ∙ says a s c (sendings-placed a .only s)
+
+      changed-slot : slotChanged w
+          ≡ cond (lostAt (transmissionOf xs) words s) 0 (flipCount (transmissionOf xs) words (slotIndex s))
+      unfolding slotChanged
+      changed-slot = go (lostAt (transmissionOf xs) words s) refl
+        where
+          go : (b : Bool) → lostAt (transmissionOf xs) words s ≡ b
+              → unlessLost (meaning (nearest w)) (changed w) ≡ cond b 0 (flipCount (transmissionOf xs) words (slotIndex s))
+          go true e = rw (gone m e)
+          go false e = rw (kept e, says a s c (sendings-placed a .only s)) (not-lost xs c (distance w (codewordIn (codewordsOf xs) c)) ∙ word-flips)
+
+  -- ---- the bits changed in all of them
+
+  pub all-changed : AllAllowed xs → most ≤ 3 → changesIn (drop 18 words) ≡ flipsBut (lostAt (transmissionOf xs) words) xs words
+  all-changed a m =
+      let b : length (drop 18 words) / 17 ≡ batches (placementOf xs) = omega (arith, behind-size) in
+      rw (
+        b,
+        sum-cong (λ s. slotChanged (slotWord (drop 18 words) s))
+            (λ s. cond (lostAt (transmissionOf xs) words s) 0 (flipCount (transmissionOf xs) words (slotIndex s)))
+            (16 * batches (placementOf xs)) (λ s l. changed-slot s l a m),
+        sum-cong (λ q. changed (syncWord (drop 18 words) q)) (λ q. flipCount (transmissionOf xs) words (18 + 17 * q))
+            (batches (placementOf xs)) changed-sync,
+      )
 
 -- the words as they were sent are received words
 pub clean : (xs : List Sending) → Received 2 (transmissionOf xs) (transmissionOf xs)

@@ -15,10 +15,11 @@ use Rattle.transmission.specs.Sending.{Sending, sendingAt, placementOf, AllAllo
 use Rattle.transmission.specs.Transmission.{transmissionOf}
 use Rattle.transmission.specs.Transmitted.{slotIndex}
 use Rattle.transmission.proofs.Sendings.{words-at, sendable, sendings-placed}
-use Rattle.reader.specs.Reading.{slotWord, heardIn}
+use Rattle.reader.specs.Reading.{readAt, ended, slotWord, heardIn}
+use Rattle.reader.specs.declared.Changes.{Changes}
 use Rattle.guarantees.specs.Order.{order}
-use Rattle.guarantees.specs.Transport.{flipCount, lostAt, isRead, reach, hearingIn, orphaned, heardBut, Transport, hearingOf, asSent, WholeTransport}
-use Rattle.guarantees.proofs.Received.{behind-size, outside, few-flips, says-slot, all-synced}
+use Rattle.guarantees.specs.Transport.{flipCount, lostAt, flipsIn, flipsBut, isRead, reach, hearingIn, orphaned, heardBut, Transport, hearingOf, asSent, WholeTransport}
+use Rattle.guarantees.proofs.Received.{behind-size, outside, few-flips, says-slot, all-synced, all-changed}
 use Rattle.guarantees.proofs.Along.{heard-along}
 
 -- each page whose address is read is heard up to its first lost word, with up to three flips in a codeword
@@ -32,7 +33,9 @@ heard-but xs a most few words rec =
       whole = behind-size xs most words rec;
       synced = all-synced xs most words rec;
       heard =
-          heard-along lost xs (sendable a .framed) (slotWord (drop 18 words)) n (λ s l. says-slot xs most words rec s (omega arith) a few) size
+          ap (ended (readAt (slotWord (drop 18 words)) n)) (all-changed xs most words rec a few)
+          ∙ heard-along lost xs (sendable a .framed) (slotWord (drop 18 words)) n (λ s l. says-slot xs most words rec s (omega arith) a few)
+          (flipsBut lost xs words) size
           (le-ltb 2 (flipCount (transmissionOf xs) words (slotIndex n)) (omega (arith, outside xs most words rec n (omega arith))));
     }
 
@@ -55,9 +58,14 @@ module _ (xs : List Sending) (a : AllAllowed xs) (lost : ℕ → Bool) (none : (
   no-orphan s c (itsMessage i j l m q) =
       rw (none s, all-read i) (lt-leb (length (sendingAt xs i .groups) + 2) j (omega (arith, words-at xs i)))
 
-  none-lost : heardBut lost xs ≡ asSent xs
+  all-flips : (words : List ℕ) → flipsBut lost xs words ≡ flipsIn xs words
+  all-flips words =
+      let flips : ℕ → ℕ = λ p. flipCount (transmissionOf xs) words (slotIndex p) in
+      rw (sum-cong (λ p. cond (lost p) 0 (flips p)) flips (16 * batches (placementOf xs)) (λ p l. rw (none p)))
+
+  none-lost : (changes : Changes) → heardBut lost xs changes ≡ asSent xs changes
   unfolding heardBut asSent
-  none-lost =
+  none-lost changes =
       let n = 16 * batches (placementOf xs) in
       rw (
         passing-all (isRead lost xs) (λ p. ap not (none _)) (order (placementOf xs)),
@@ -72,11 +80,10 @@ module _ (xs : List Sending) (a : AllAllowed xs) (lost : ℕ → Bool) (none : (
 pub heard-as-sent : WholeTransport
 heard-as-sent xs a most few words rec =
     let t = heard-but xs a most (omega arith) words rec in
+    let lost = lostAt (transmissionOf xs) words in
+    let none : (s : ℕ) → lost s ≡ false = λ s. le-ltb 2 (flipCount (transmissionOf xs) words (slotIndex s)) (omega (arith, few-flips xs most words rec s)) in
     record {
       whole = t .whole;
       synced = t .synced;
-      heard =
-          t .heard
-          ∙ none-lost xs a (lostAt (transmissionOf xs) words)
-          (λ s. le-ltb 2 (flipCount (transmissionOf xs) words (slotIndex s)) (omega (arith, few-flips xs most words rec s)));
+      heard = t .heard ∙ none-lost xs a lost none (flipsBut lost xs words) ∙ ap (asSent xs) (all-flips xs a lost none words);
     }

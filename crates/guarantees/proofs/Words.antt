@@ -21,6 +21,7 @@ use Rattle.transmission.specs.Sending.{Sending, sendingAt, placementOf, AllAllo
 use Rattle.transmission.specs.Transmission.{codewordsOf, codewordIn}
 use Rattle.transmission.proofs.Sendings.{pages-are}
 use Rattle.reader.specs.Meaning.{flagClear, codewordMeaning}
+use Rattle.reader.specs.Changed.{unlessLost}
 use Rattle.reader.specs.declared.Meaning.{Meaning}
 use Rattle.reader.specs.declared.Meaning.the-variants.{Idle, Address, Message}
 
@@ -92,3 +93,9 @@ says {xs} a s c (itsMessage i j l m q) =
     let h : b < 2 ^ 20 = x .small j in
     let bits : messageBits b ≡ 1048576 + b = omega (arith, h) in
     group-says (code.codeword (messageBits b)) b (codeword-front (messageBits b) (omega arith) ∙ bits) h
+
+-- it is not lost
+pub not-lost : (xs : List Sending) (c : Content) (n : ℕ) → unlessLost (meaningIn xs c) n ≡ n
+not-lost xs idle n = refl
+not-lost xs (address i) n = refl
+not-lost xs (message i j) n = refl

@@ -18,7 +18,7 @@ use Rattle.reader.specs.Lines.{lineHeard}
 use Rattle.reader.specs.Answers.{readWords, readListing}
 use Rattle.reader.specs.declared.Reading.{Reading}
 use Rattle.guarantees.specs.Order.{order, InOrder}
-use Rattle.guarantees.specs.Transport.{Received, hearingOf}
+use Rattle.guarantees.specs.Transport.{Received, flipsIn, hearingOf}
 use Rattle.guarantees.specs.Gives.{Gives}
 
 -- line p of a job, with its newline
@@ -37,18 +37,19 @@ linesInOrder s = flatMap (pageLine s) (inSlotOrder s)
 abbrev pub LineBack : Type 0
 LineBack = (s : List ℕ) (n : ℕ) → jobOf s ≡ Accepted n → (p : ℕ) → p < n → lineHeard (hearingOf (sendingAt (sendingsOf s) p)) ≡ pageLine s p
 
--- an answer that gives the n pages of a job back: nothing lost, no orphans, the job's own lines in the order of their slots
-abbrev pub GivesBack : List ℕ → ℕ → ℕ → Reading → List ℕ → Type 0
-GivesBack s n room answer words = Gives (linesInOrder s) n 0 0 room answer words
+-- an answer to reading the words behind the preamble that gives the n pages of a job back: nothing lost, no orphans, the job's own lines in
+-- the order of their slots, and as many bits changed as were flipped
+abbrev pub GivesBack : List ℕ → ℕ → List ℕ → ℕ → Reading → List ℕ → Type 0
+GivesBack s n words room answer behind = Gives (linesInOrder s) n 0 0 (flipsIn (sendingsOf s) words) room answer behind
 
 -- what reading these words gives of a job of n pages
 pub record SamePages (s : List ℕ) (n : ℕ) (words : List ℕ) : Type 0 where
   -- the order is that of the slots: every page once, by rising slots
   pub in-order : InOrder (placementOf (sendingsOf s)) (inSlotOrder s)
   -- the words behind the preamble, read as a slice of words
-  pub from-words : (room : ℕ) → GivesBack s n room (readWords (drop 18 words) room) (drop 18 words)
+  pub from-words : (room : ℕ) → GivesBack s n words room (readWords (drop 18 words) room) (drop 18 words)
   -- all the words, read as a listing
-  pub from-listing : (room : ℕ) → GivesBack s n room (readListing (textOf words) room) (wordsOf (textOf words))
+  pub from-listing : (room : ℕ) → GivesBack s n words room (readListing (textOf words) room) (wordsOf (textOf words))
 
 -- every accepted job, and all words that are received for its transmission with up to two bits flipped in each sync and frame codeword
 abbrev pub Demand2 : Type 0

@@ -27,7 +27,7 @@ use Rattle.reader.specs.Meaning.{meaning}
 use Rattle.reader.specs.Answers.{readWords, readListing}
 use Rattle.reader.specs.declared.Meaning.the-variants.{Lost}
 use Rattle.reader.specs.declared.Reading.{Reading}
-use Rattle.guarantees.specs.Transport.{flipCount, Received, lostAt, lostTo, orphansTo}
+use Rattle.guarantees.specs.Transport.{flipCount, Received, flipsBut, lostAt, lostTo, orphansTo}
 use Rattle.guarantees.specs.Gives.{Gives}
 use Rattle.guarantees.specs.Demand2.{pageLine, wordsLeft}
 use Rattle.guarantees.specs.Demand3.{page, count, wordIn}
@@ -100,11 +100,12 @@ pub record Logged (s : List ℕ) (n : ℕ) (words ps : List ℕ) : Type 0 where
   pub rising : (k l : ℕ) → k < l → l < length ps → addressSlot s (getD ps k 0) < addressSlot s (getD ps l 0)
 
 -- an answer to reading the words behind the preamble that gives the lines of these pages, one after the other; lost are the words with
--- more than two flips, and orphans the message words with at most two behind a lost word of their page
+-- more than two flips, and orphans the message words with at most two behind a lost word of their page; changed are the flipped bits of
+-- all words that are not lost
 abbrev pub GivesLog : List ℕ → List ℕ → (ℕ → List ℕ) → List ℕ → ℕ → Reading → List ℕ → Type 0
 GivesLog s words line ps room answer behind =
     Gives (flatMap line ps) (length ps) (lostTo (slotLost s words) (slotCount s)) (orphansTo (slotLost s words) (sendingsOf s) (slotCount s))
-    room answer behind
+    (flipsBut (slotLost s words) (sendingsOf s) words) room answer behind
 
 -- what reading these words gives of a job of n pages
 pub record NothingFalse (s : List ℕ) (n : ℕ) (words : List ℕ) : Type 0 where

@@ -14,6 +14,7 @@ use Rattle.transmission.specs.Transmission.{transmissionOf}
 use Rattle.transmission.specs.Transmitted.{slotIndex}
 use Rattle.reader.specs.Reading.{Hearing, Heard, heardIn}
 use Rattle.reader.specs.Answers.{unsynced}
+use Rattle.reader.specs.declared.Changes.{Changes}
 use Rattle.guarantees.specs.Order.{order}
 
 -- ---- received words
@@ -33,6 +34,20 @@ pub record Received (most : ℕ) (sent words : List ℕ) : Type 0 where
 -- the word of slot p has more than two flips
 abbrev pub lostAt : List ℕ → List ℕ → ℕ → Bool
 lostAt sent words p = ltb 2 (flipCount sent words (slotIndex p))
+
+-- the flips of all slots and, apart, of all syncs (R-2)
+abbrev pub flipsIn : List Sending → List ℕ → Changes
+flipsIn xs words = record {
+  slots = sum (λ p. flipCount (transmissionOf xs) words (slotIndex p)) (16 * batches (placementOf xs));
+  syncs = sum (λ q. flipCount (transmissionOf xs) words (18 + 17 * q)) (batches (placementOf xs));
+}
+
+-- the same without those of lost words
+abbrev pub flipsBut : (ℕ → Bool) → List Sending → List ℕ → Changes
+flipsBut lost xs words = record {
+  slots = sum (λ p. cond (lost p) 0 (flipCount (transmissionOf xs) words (slotIndex p))) (16 * batches (placementOf xs));
+  syncs = flipsIn xs words .syncs;
+}
 
 -- ---- what is heard of sendings where the words of some slots are lost, whichever they are; behind the last slot nothing is
 
@@ -73,12 +88,13 @@ lostTo lost s = sum (λ p. cond (lost p) 1 0) s
 abbrev pub orphansTo : (ℕ → Bool) → List Sending → ℕ → ℕ
 orphansTo lost xs s = sum (λ p. cond (orphaned lost xs p (contentAt (placementOf xs) p)) 1 0) s
 
--- the pages in the order of their slots; the lost words and the orphans
-unfoldable pub heardBut : (ℕ → Bool) → List Sending → Heard
-heardBut lost xs = record {
+-- the pages in the order of their slots; the lost words and the orphans; and so many bits changed
+unfoldable pub heardBut : (ℕ → Bool) → List Sending → Changes → Heard
+heardBut lost xs changes = record {
   pages = heardOf lost xs (order (placementOf xs));
   lost = lostTo lost (16 * batches (placementOf xs));
   orphans = orphansTo lost xs (16 * batches (placementOf xs));
+  changed = changes;
 }
 
 -- what is heard of the words behind the preamble
@@ -88,12 +104,12 @@ pub record HeardAs (xs : List Sending) (h : Heard) (words : List ℕ) : Type 0 w
   pub synced : (q : ℕ) → q < batches (placementOf xs) → unsynced (drop 18 words) q ≡ false
   pub heard : heardIn (drop 18 words) ≡ h
 
--- with up to three flips in each frame codeword the sendings of an accepted job are heard so, the slots with more than two being lost:
--- `heard-but` in proofs/Transport.antt proves it
+-- with up to three flips in each frame codeword the sendings of an accepted job are heard so, the slots with more than two being lost and
+-- all other flips mended: `heard-but` in proofs/Transport.antt proves it
 abbrev pub Transport : Type 0
 Transport =
     (xs : List Sending) → AllAllowed xs → (most : ℕ) → most ≤ 3 → (words : List ℕ) → Received most (transmissionOf xs) words
-    → HeardAs xs (heardBut (lostAt (transmissionOf xs) words) xs) words
+    → HeardAs xs (heardBut (lostAt (transmissionOf xs) words) xs (flipsBut (lostAt (transmissionOf xs) words) xs words)) words
 
 -- ---- where no word is lost
 
@@ -101,12 +117,17 @@ Transport =
 abbrev pub hearingOf : Sending → Hearing
 hearingOf x = record { identity = x .identity; function = x .function; groups = x .groups; cut = false }
 
--- sendings heard as they were sent, in the order of their slots; nothing is lost, and there are no orphans
-unfoldable pub asSent : List Sending → Heard
-asSent xs = record { pages = map (λ p. hearingOf (sendingAt xs p)) (order (placementOf xs)); lost = 0; orphans = 0 }
+-- sendings heard as they were sent, in the order of their slots; nothing is lost, there are no orphans, and so many bits are changed
+unfoldable pub asSent : List Sending → Changes → Heard
+asSent xs changes = record {
+  pages = map (λ p. hearingOf (sendingAt xs p)) (order (placementOf xs));
+  lost = 0;
+  orphans = 0;
+  changed = changes;
+}
 
--- with up to two flips they are heard so: `heard-as-sent` in proofs/Transport.antt proves it
+-- with up to two flips they are heard so, and all flips are mended: `heard-as-sent` in proofs/Transport.antt proves it
 abbrev pub WholeTransport : Type 0
 WholeTransport =
     (xs : List Sending) → AllAllowed xs → (most : ℕ) → most ≤ 2 → (words : List ℕ) → Received most (transmissionOf xs) words
-    → HeardAs xs (asSent xs) words
+    → HeardAs xs (asSent xs (flipsIn xs words)) words

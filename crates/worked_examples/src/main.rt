@@ -54,14 +54,16 @@ fn message(line: &[u8]) {
 }
 
 fn print_correction(answer: Correction) {
-    let Correction::Corrected(c) = answer else {
+    let Correction::Corrected(c, changed) = answer else {
         print(b" refused 20");
         return;
     };
     print_word(c.word());
+    print(b" changed ");
+    print_number(changed as u64);
 }
 
-// `W 00000003`: what a received word reads as.
+// `W 00000003`: what a received word reads as, and how many bits are changed.
 fn word(line: &[u8]) {
     print_correction(codeword::correct(number_in(line, 2, 10)));
 }
@@ -257,6 +259,7 @@ fn print_reading(answer: Reading, lines: &[u8]) {
             pages,
             lost,
             orphans,
+            changed,
             bytes,
         } => {
             print(b" pages ");
@@ -265,6 +268,10 @@ fn print_reading(answer: Reading, lines: &[u8]) {
             print_number(lost as u64);
             print(b" orphans ");
             print_number(orphans as u64);
+            print(b" changed ");
+            print_number(changed.slots as u64);
+            print(b" syncs ");
+            print_number(changed.syncs as u64);
             print(b" ");
             print_bars(lines, bytes);
         }
