@@ -35,6 +35,7 @@ extern "C" {
 struct card_word {
     uint32_t word;      /* the codeword at most two bits away, or the word itself where there is none */
     uint32_t number;    /* 0, or 20 */
+    uint32_t changed;   /* bits changed: 0, 1 or 2; none with number 20 */
 };
 
 /* Corrects a word, all 32 bits counted. */
@@ -67,6 +68,11 @@ struct card_bytes card_list(const uint8_t *job, size_t job_length, uint8_t *out,
 
 /* ---- reading */
 
+struct card_changes {
+    uint32_t slots;     /* bits changed in the slots' words, but for lost ones */
+    uint32_t syncs;     /* bits changed in the sync words */
+};
+
 struct card_reading {
     size_t place;
     size_t bytes;       /* how many are written */
@@ -74,6 +80,7 @@ struct card_reading {
     uint32_t pages;     /* lines written */
     uint32_t lost;      /* words lost */
     uint32_t orphans;   /* message words that belong to no page */
+    struct card_changes changed;
 };
 
 /* The page lines of words, over the front of out. The words are batches only: those that card_send writes behind the first

@@ -1,4 +1,4 @@
-/* A job sent whole, sent again word by word, and read back.
+/* A job sent whole, sent again word by word, and read back with some wrong bits.
  *
  * Build and run it in the repository's folder, once `rt staticlib card` has made the archive:
  *     gcc -Wall -Wextra tests/c/example.c -Iinclude target/staticlib/libcard.a -o target/example && target/example
@@ -51,12 +51,16 @@ int main(void) {
     }
     printf("%u steps give the same words\n", steps);
 
+    /* one wrong bit in the first sync, two in the first slot */
+    words[CARD_PREAMBLE_WORDS] ^= 0x00000001;
+    words[CARD_PREAMBLE_WORDS + 1] ^= 0x80000010;
     struct card_reading read = card_read_words(words + CARD_PREAMBLE_WORDS, sent.words - CARD_PREAMBLE_WORDS, lines, CARD_LINES_BYTES);
     if (read.number != 0) {
         printf("refused %u place %zu\n", read.number, read.place);
         return 1;
     }
     printf("%u pages, %u lost, %u orphans\n", read.pages, read.lost, read.orphans);
+    printf("%u bits changed in the slots, %u in the syncs\n", read.changed.slots, read.changed.syncs);
     fwrite(lines, 1, read.bytes, stdout);
     return 0;
 }

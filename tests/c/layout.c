@@ -9,6 +9,14 @@
 static int wrong;
 #define EXPECT(fact) do { if (!(fact)) { printf("line %d: %s\n", __LINE__, #fact); wrong = 1; } } while (0)
 
+/* the answers that say how many bits are changed */
+CARD_ASSERT(sizeof(struct card_word) == 12 && offsetof(struct card_word, changed) == 8);
+CARD_ASSERT(sizeof(struct card_changes) == 8 && offsetof(struct card_changes, syncs) == 4);
+CARD_ASSERT(sizeof(struct card_reading) == 40 && offsetof(struct card_reading, changed) == 32);
+
+/* the counts of a reading that is declined */
+#define ALL_ZERO(d) ((d).bytes == 0 && (d).pages == 0 && (d).lost == 0 && (d).orphans == 0 && (d).changed.slots == 0 && (d).changed.syncs == 0)
+
 static struct card_sender state, kept;
 static uint32_t words[CARD_WORDS], slots[CARD_PAGES + 1];
 static uint8_t out[CARD_LISTING_BYTES];
@@ -69,9 +77,13 @@ int main(void) {
 
     /* every field of the other answers */
     struct card_word w = card_correct(0x00000003);
-    EXPECT(w.word == 0 && w.number == 0);
+    EXPECT(w.word == 0 && w.number == 0 && w.changed == 2);
+    w = card_correct(0x7A89C196);
+    EXPECT(w.word == 0x7A89C197 && w.number == 0 && w.changed == 1);
+    w = card_correct(0x7A89C197);
+    EXPECT(w.word == 0x7A89C197 && w.number == 0 && w.changed == 0);
     w = card_correct(0x00000007);
-    EXPECT(w.word == 7 && w.number == 20);
+    EXPECT(w.word == 7 && w.number == 20 && w.changed == 0);
     slots[2] = 77; words[35] = 78;
     struct card_report s = card_send(job, 14, words, 35, slots, 1);
     EXPECT(s.place == 0 && s.number == 0 && s.batches == 1 && s.words == 35 && slots[0] == 2 && words[21] == 0x000026EC && words[35] == 78);
@@ -83,15 +95,29 @@ int main(void) {
     EXPECT(l.place == 0 && l.number == 0 && l.bytes == 315);
     struct card_reading d = card_read_listing(out, l.bytes, out + 400, 14);
     EXPECT(d.place == 0 && d.number == 0 && d.bytes == 14 && d.pages == 1 && d.lost == 0 && d.orphans == 0 && memcmp(out + 400, job, 14) == 0);
+    EXPECT(d.changed.slots == 0 && d.changed.syncs == 0);
     d = card_read_listing(out, l.bytes, out + 400, 13);
-    EXPECT(d.place == 0 && d.number == 10 && d.bytes == 0 && d.pages == 0);
+    EXPECT(d.place == 0 && d.number == 10 && ALL_ZERO(d));
     d = card_read_listing(out, l.bytes - 1, out + 400, 14);
-    EXPECT(d.place == 18 && d.number == 21);
+    EXPECT(d.place == 18 && d.number == 21 && ALL_ZERO(d));
     words[20] = 7; words[21] = 0xC2199DEA;
     d = card_read_words(words + CARD_PREAMBLE_WORDS, 17, out, sizeof out);
     EXPECT(d.place == 0 && d.number == 0 && d.bytes == 0 && d.pages == 0 && d.lost == 1 && d.orphans == 2);
+    EXPECT(d.changed.slots == 0 && d.changed.syncs == 0);
+
+    /* bits changed in the sync, an idle, an orphan and an address; not in the words lost, of which one has the value of sync */
+    words[18] ^= 0x00000003; words[19] ^= 0x80000000; words[22] ^= 0x00010001; words[23] = 0x7CD215D9; words[24] = 0x000026EC ^ 0x00000401;
+    d = card_read_words(words + CARD_PREAMBLE_WORDS, 17, out, sizeof out);
+    EXPECT(d.place == 0 && d.number == 0 && d.bytes == 9 && d.pages == 1 && d.lost == 2 && d.orphans == 2 && memcmp(out, "00000A 0\n", 9) == 0);
+    EXPECT(d.changed.slots == 5 && d.changed.syncs == 2);
+    d = card_read_words(words + CARD_PREAMBLE_WORDS, 17, out, 8);
+    EXPECT(d.place == 0 && d.number == 10 && ALL_ZERO(d));
+    d = card_read_words(words + CARD_PREAMBLE_WORDS, 16, out, sizeof out);
+    EXPECT(d.place == 0 && d.number == 21 && ALL_ZERO(d));
+    d = card_read_words(words, 17 * 301, out, sizeof out);
+    EXPECT(d.place == 0 && d.number == 23 && ALL_ZERO(d));
     words[18] = 7;
     d = card_read_words(words + CARD_PREAMBLE_WORDS, 17, out, sizeof out);
-    EXPECT(d.place == 1 && d.number == 22 && d.lost == 0 && d.orphans == 0);
+    EXPECT(d.place == 1 && d.number == 22 && ALL_ZERO(d));
     return wrong;
 }

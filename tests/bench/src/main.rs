@@ -47,10 +47,10 @@ struct Bench {
     bytes: Vec<u8>,
 }
 
-/// One call for each word, as the library is called.
+/// One call for each word, as the library is called: the codeword, and how many bits are changed.
 #[inline(never)]
-fn correct_alone(word: u32) -> Option<u32> {
-    codeword::correct(word)
+fn correct_alone(word: u32) -> Option<(u32, u32)> {
+    codeword::correct(word).map(|near| (near, codeword::changed(word, near)))
 }
 
 impl Bench {
@@ -76,7 +76,7 @@ impl Bench {
             let words: Vec<u32> = (0..COUNT).map(|_| words::codeword(&mut self.random) ^ damage(&mut self.random)).collect();
             for &word in &words {
                 let answer = card::correct(word);
-                assert_eq!((answer.number == 0).then_some(answer.word), codeword::correct(word));
+                assert_eq!((answer.number == 0).then_some((answer.word, answer.changed)), correct_alone(word));
             }
             row(
                 self.effort,
@@ -218,6 +218,7 @@ impl Bench {
 
 fn same(library: card::Reading, independent: Result<reader::Reading, independent::Refusal>) {
     let expected = independent.expect("can be read");
-    let got = reader::Reading { bytes: library.bytes, pages: library.pages, lost: library.lost, orphans: library.orphans };
-    assert_eq!((library.number, got), (0, expected));
+    let card::Reading { bytes, number, pages, lost, orphans, changed: card::Changes { slots, syncs }, .. } = library;
+    let got = reader::Reading { bytes, pages, lost, orphans, changed: reader::Changes { slots, syncs } };
+    assert_eq!((number, got), (0, expected));
 }

@@ -15,6 +15,7 @@ pub const STAND_IN: bool = cfg!(feature = "stand-in");
 pub struct Word {
     pub word: u32,
     pub number: u32,
+    pub changed: u32,
 }
 
 /// `struct card_report`.
@@ -36,6 +37,14 @@ pub struct Bytes {
     pub number: u32,
 }
 
+/// `struct card_changes`.
+#[repr(C)]
+#[derive(Clone, Copy, Debug, PartialEq, Eq)]
+pub struct Changes {
+    pub slots: u32,
+    pub syncs: u32,
+}
+
 /// `struct card_reading`.
 #[repr(C)]
 #[derive(Clone, Copy, Debug, PartialEq, Eq)]
@@ -46,6 +55,7 @@ pub struct Reading {
     pub pages: u32,
     pub lost: u32,
     pub orphans: u32,
+    pub changed: Changes,
 }
 
 /// Sizes that the header promises to suffice.

@@ -2,8 +2,9 @@
 //! to be made on purpose, so that one can see the comparison find it.
 
 use crate::steps::{self, Sender, Step};
-use crate::{Bytes, Reading, Report, Word};
-use independent::{codeword, job, reader, send, state, Refusal};
+use crate::{Bytes, Changes, Reading, Report, Word};
+use independent::codeword::Meaning;
+use independent::{codeword, job, listing, reader, send, state, Refusal};
 use std::slice::{from_raw_parts, from_raw_parts_mut};
 use std::sync::OnceLock;
 
@@ -49,25 +50,52 @@ pub const FAULTS: &[&str] = &[
     "whole-before-a-lost-word",
     "joined-behind-a-lost-word",
     "cut-keeps-its-kind",
+    "changed-one-more",
+    "changed-31-bits",
+    "refused-word-changed",
+    "sums-one-more",
+    "lost-words-summed",
+    "idle-words-not-summed",
+    "orphans-not-summed",
+    "syncs-among-the-slots",
+    "syncs-31-bits",
+    "sums-when-declined",
 ];
 
-fn is(fault: &str) -> bool {
+/// The mistake that is asked for, empty where none is.
+fn asked() -> &'static str {
     static ASKED: OnceLock<String> = OnceLock::new();
+    ASKED.get_or_init(|| std::env::var("CARD_FAULT").unwrap_or_default())
+}
+
+fn is(fault: &str) -> bool {
     debug_assert!(FAULTS.contains(&fault));
-    ASKED.get_or_init(|| std::env::var("CARD_FAULT").unwrap_or_default()) == fault
+    asked() == fault
 }
 
 #[no_mangle]
 extern "C" fn card_correct(word: u32) -> Word {
     if is("correct-31-bits") {
         let near = [0, 1].into_iter().find_map(|parity| codeword::correct(word ^ parity));
-        return near.map_or(Word { word, number: 20 }, |word| Word { word, number: 0 });
+        return near.map_or(Word { word, number: 20, changed: 0 }, |near| answered(word, near));
     }
     match codeword::correct(word) {
-        Some(near) if is("correct-one-bit") && (near ^ word).count_ones() == 2 => Word { word, number: 20 },
-        Some(word) => Word { word, number: 0 },
-        None => Word { word: if is("refused-word-zero") { 0 } else { word }, number: 20 },
+        Some(near) if is("correct-one-bit") && codeword::changed(word, near) == 2 => Word { word, number: 20, changed: 0 },
+        Some(near) => answered(word, near),
+        None => {
+            let changed = if is("refused-word-changed") { 3 } else { 0 };
+            Word { word: if is("refused-word-zero") { 0 } else { word }, number: 20, changed }
+        }
     }
+}
+
+fn answered(received: u32, word: u32) -> Word {
+    let counted = if is("changed-31-bits") { !1 } else { !0 };
+    let mut changed = codeword::changed(received & counted, word & counted);
+    if is("changed-one-more") && changed == 2 {
+        changed = 3;
+    }
+    Word { word, number: 0, changed }
 }
 
 /// The job as it is or, for some mistakes, as it is wrongly taken.
@@ -178,7 +206,7 @@ unsafe extern "C" fn card_read_words(words: *const u32, words_length: usize, out
     let most = if is("301-batches") && words.len() == 17 * 301 { words.len() - 17 } else { words.len() };
     let (words, missed) = taken_words(&words[..most]);
     let result = reader::read_words(&words, out).map(|read| reader::Reading { lost: read.lost + missed, ..read });
-    reading(result, out)
+    reading(result, || words, out)
 }
 
 #[no_mangle]
@@ -195,12 +223,49 @@ unsafe extern "C" fn card_read_listing(listing: *const u8, listing_length: usize
             result = Err(Refusal::new(22, 1));
         }
     }
-    reading(result, out)
+    reading(result, || listing::read(listing).unwrap_or_default(), out)
 }
 
-fn reading(result: Result<reader::Reading, Refusal>, out: &mut [u8]) -> Reading {
+/// The bits changed in the words of batches, as they are rightly summed or, for some mistakes, wrongly.
+fn summed(words: impl FnOnce() -> Vec<u32>, right: reader::Changes) -> Changes {
+    let reader::Changes { mut slots, mut syncs } = right;
+    if asked().is_empty() {
+        return Changes { slots, syncs };
+    }
+    let words = words();
+    let mut open = false;
+    for &word in words.chunks(17).flat_map(|batch| &batch[1..]) {
+        let near = codeword::correct(word);
+        let changed = near.map_or(0, |near| codeword::changed(word, near));
+        match near.map(codeword::meaning) {
+            Some(Meaning::Address { .. }) => open = true,
+            Some(Meaning::Message(_)) => slots -= if is("orphans-not-summed") && !open { changed } else { 0 },
+            Some(Meaning::Idle) => {
+                slots -= if is("idle-words-not-summed") { changed } else { 0 };
+                open = false;
+            }
+            None | Some(Meaning::Reserved) => {
+                slots += if is("lost-words-summed") { changed } else { 0 };
+                open = false;
+            }
+        }
+    }
+    if is("sums-one-more") && slots > 0 {
+        slots += 1;
+    }
+    if is("syncs-among-the-slots") {
+        slots += syncs;
+    }
+    if is("syncs-31-bits") {
+        syncs -= words.iter().step_by(17).filter(|&word| (word ^ codeword::SYNC) & 1 == 1).count() as u32;
+    }
+    Changes { slots, syncs }
+}
+
+/// An answer in the header's form; `words` gives the words of the batches.
+fn reading(result: Result<reader::Reading, Refusal>, words: impl FnOnce() -> Vec<u32>, out: &mut [u8]) -> Reading {
     match result {
-        Ok(reader::Reading { bytes, pages, lost, orphans }) => {
+        Ok(reader::Reading { bytes, pages, lost, orphans, changed }) => {
             if is("cut-not-shown") {
                 for pair in 1..bytes {
                     if out[pair - 1] == b'-' {
@@ -217,13 +282,15 @@ fn reading(result: Result<reader::Reading, Refusal>, out: &mut [u8]) -> Reading 
                     }
                 }
             }
-            Reading { place: 0, bytes, number: 0, pages, lost, orphans: if is("orphans-not-counted") { 0 } else { orphans } }
+            let orphans = if is("orphans-not-counted") { 0 } else { orphans };
+            Reading { place: 0, bytes, number: 0, pages, lost, orphans, changed: summed(words, changed) }
         }
         Err(Refusal { number, mut place }) => {
             if is("place-of-21") && number == 21 {
                 place = place.saturating_sub(1);
             }
-            Reading { place, bytes: 0, number, pages: 0, lost: 0, orphans: 0 }
+            let changed = Changes { slots: u32::from(is("sums-when-declined") && number == 10), syncs: 0 };
+            Reading { place, bytes: 0, number, pages: 0, lost: 0, orphans: 0, changed }
         }
     }
 }

@@ -155,6 +155,7 @@ pub fn limits() -> Vec<Vec<u8>> {
             listings.push(over);
         }
     }
+    listings.extend(words::mended().iter().map(|batch| listing(9, 0xAAAA_AAAA, batch)));
     listings.push(vec![]);
     listings
 }

@@ -164,6 +164,13 @@ pub fn slice(random: &mut Random) -> Vec<u32> {
             words.iter_mut().step_by(BATCH).for_each(|word| *word = SYNC);
             words
         }
+        4 => {
+            // words of every sort, each with none to two wrong bits
+            let count = random.between(1, 6);
+            let mut words = free_batches(random, count);
+            damage(random, &mut words, Damage::Light);
+            words
+        }
         _ => {
             let mut words = batches(random);
             let kind = random.pick(DAMAGES);
@@ -173,7 +180,7 @@ pub fn slice(random: &mut Random) -> Vec<u32> {
     }
 }
 
-/// Slices around the most batches, the same in every run.
+/// Slices around the most batches, and those of `mended`, the same in every run.
 pub fn slice_limits() -> Vec<Vec<u32>> {
     let mut slices = vec![];
     for count in [0, 1, 2, 299, 300, 301, 302, 600] {
@@ -198,12 +205,39 @@ pub fn slice_limits() -> Vec<Vec<u32>> {
             slices.push(words);
         }
     }
+    slices.extend(mended());
+    slices
+}
+
+/// Single batches in which a sync, an address, a message word or a word with a reserved value, idle among them, has one or two wrong
+/// bits, in every way. In a slot it stands behind a page's message and behind none.
+pub fn mended() -> Vec<Vec<u32>> {
+    let reserved = RESERVED.iter().flat_map(|upper| (0..4).map(move |function| encode(upper << 2 | function)));
+    let words: Vec<u32> = reserved.chain([address(9, 1), message(0x84333)]).collect();
+    let mut slices = vec![];
+    for i in 0..32 {
+        for j in 0..=i {
+            let flips = 1 << i | 1 << j;
+            let mut batch = [IDLE; BATCH];
+            batch[0] = SYNC ^ flips;
+            slices.push(batch.to_vec());
+            for &word in &words {
+                batch = [IDLE; BATCH];
+                batch[0] = SYNC;
+                (batch[7], batch[8]) = (word ^ flips, message(0));
+                slices.push(batch.to_vec());
+                (batch[5], batch[6]) = (address(2, 0), message(0x84333));
+                slices.push(batch.to_vec());
+            }
+        }
+    }
     slices
 }
 
 #[cfg(test)]
 mod tests {
     use super::*;
+    use independent::codeword::{changed, correct, meaning, Meaning};
     use independent::judge;
     use independent::reader::log_of_words;
     use std::collections::BTreeSet;
@@ -231,6 +265,27 @@ mod tests {
         assert!(slice_limits().iter().any(|words| log_of_words(words).is_err_and(|refusal| refusal.number == 23)));
         assert_eq!(kinds, (b'0'..=b'7').collect());
         assert!(cuts > 100);
+    }
+
+    /// what is mended in such words isn't counted.
+    #[test]
+    fn reserved_values_are_met_with_one_and_two_wrong_bits() {
+        let mut random = Random::new(1);
+        let mut slices = [0; 3];
+        for _ in 0..2000 {
+            let words = slice(&mut random);
+            if log_of_words(&words).is_err() {
+                continue;
+            }
+            let mut met = [false; 3];
+            for &word in words.chunks(BATCH).flat_map(|batch| &batch[1..]) {
+                if let Some(near) = correct(word).filter(|&near| meaning(near) == Meaning::Reserved) {
+                    met[changed(word, near) as usize] = true;
+                }
+            }
+            slices.iter_mut().zip(met).for_each(|(slices, met)| *slices += usize::from(met));
+        }
+        assert!(slices.iter().all(|&count| count > 100), "{slices:?}");
     }
 
     #[test]

@@ -93,6 +93,11 @@ pub fn correct(word: u32) -> Option<u32> {
     }
 }
 
+/// How many bits are changed from one word to the other, all 32 counted.
+pub fn changed(received: u32, corrected: u32) -> u32 {
+    (received ^ corrected).count_ones()
+}
+
 pub fn is_reserved(upper: u32) -> bool {
     RESERVED.contains(&upper)
 }
@@ -178,16 +183,28 @@ mod tests {
 
     #[test]
     fn up_to_two_wrong_bits_are_mended_and_three_are_not() {
+        // the codeword and the number of bits changed
+        let read = |word: u32| correct(word).map(|near| (near, changed(word, near)));
         for codeword in [0, SYNC, IDLE, message(0x84333), address(0x1F_FFFF, 3)] {
+            assert_eq!(read(codeword), Some((codeword, 0)));
             for i in 0..32 {
-                assert_eq!(correct(codeword ^ 1 << i), Some(codeword));
+                assert_eq!(read(codeword ^ 1 << i), Some((codeword, 1)));
                 for j in 0..i {
-                    assert_eq!(correct(codeword ^ 1 << i ^ 1 << j), Some(codeword));
+                    assert_eq!(read(codeword ^ 1 << i ^ 1 << j), Some((codeword, 2)));
                     for k in 0..j {
-                        assert_eq!(correct(codeword ^ 1 << i ^ 1 << j ^ 1 << k), None);
+                        assert_eq!(read(codeword ^ 1 << i ^ 1 << j ^ 1 << k), None);
                     }
                 }
             }
         }
+    }
+
+    #[test]
+    fn changed_bits() {
+        assert_eq!(changed(IDLE, IDLE), 0);
+        assert_eq!(changed(0x8000_0000, 0), 1);
+        assert_eq!(changed(0x0000_0001, 0), 1);
+        assert_eq!(changed(0x0000_0003, 0), 2);
+        assert_eq!(changed(SYNC ^ 0x8000_0001, SYNC), 2);
     }
 }

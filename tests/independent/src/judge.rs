@@ -1,9 +1,9 @@
 //! R-9 as checks of one reading of a damaged transmission, whoever read it. It goes by R-9's sentences alone: it knows how many bits
-//! were flipped in each slot's word and looks at no codeword.
+//! were flipped in each word and looks at no codeword.
 
 use crate::job;
 use crate::placement::BATCH_WORDS;
-use crate::reader::Log;
+use crate::reader::{Changes, Log};
 
 /// A page that was sent.
 pub struct Sent<'a> {
@@ -22,13 +22,38 @@ pub fn sent<'a>(job: &'a [u8], slots: &[u32]) -> Vec<Sent<'a>> {
     sent.map(|((line, page), &slot)| Sent { line, message_words: page.message_words(), slot: slot as usize }).collect()
 }
 
-/// How many bits of each slot's word are flipped.
-pub fn flips(sent: &[u32], received: &[u32]) -> Vec<u32> {
-    let slots = sent.iter().zip(received).enumerate().filter(|(i, _)| i % BATCH_WORDS != 0);
-    slots.map(|(_, (sent, received))| (sent ^ received).count_ones()).collect()
+/// How many bits are flipped: at most three of each slot's word, and at most two of a sync.
+#[derive(Default)]
+pub struct Flips {
+    /// Of each slot's word.
+    slots: Vec<u32>,
+    /// Of all syncs together.
+    syncs: u32,
 }
 
-/// What is asked of a reading, in this order, and named where it is broken: R-9's sentences, and document 01's counts with them.
+/// The flips of batches, given as they were sent and as they were received.
+pub fn flips(sent: &[u32], received: &[u32]) -> Flips {
+    let mut flips = Flips::default();
+    for (i, (sent, received)) in sent.iter().zip(received).enumerate() {
+        let count = (sent ^ received).count_ones();
+        if i % BATCH_WORDS == 0 {
+            flips.syncs += count;
+        } else {
+            flips.slots.push(count);
+        }
+    }
+    flips
+}
+
+impl Flips {
+    /// The bits that reading changes: every flip but those of lost words.
+    pub fn changed(&self) -> Changes {
+        Changes { slots: self.slots.iter().filter(|flips| is_read(flips)).sum(), syncs: self.syncs }
+    }
+}
+
+/// What is asked of a reading, in this order, and named where it is broken: R-9's sentences, and with them document 01's counts
+/// and R-2's sums.
 #[derive(Clone, Copy, Debug, PartialEq, Eq)]
 pub enum Broken {
     /// The pages lie within the batches, by their reported slots.
@@ -51,16 +76,21 @@ pub enum Broken {
     Text,
     /// Message words that were read behind a lost word of their own page are the orphans.
     Orphans,
+    /// In the slots as many bits are changed as are flipped, lost words apart.
+    ChangedSlots,
+    /// In the syncs as many bits are changed as are flipped.
+    ChangedSyncs,
 }
 
-/// What a reading breaks first, if anything. `flips` has the number of flipped bits of each slot's word, at most three.
-pub fn judge(sent: &[Sent], flips: &[u32], read: &Log) -> Result<(), Broken> {
-    let mut pages = sent.iter().map(|sent| Received::new(sent, flips)).collect::<Option<Vec<_>>>().ok_or(Broken::Slots)?;
+/// What a reading breaks first, if anything.
+pub fn judge(sent: &[Sent], flips: &Flips, read: &Log) -> Result<(), Broken> {
+    let slots = &flips.slots;
+    let mut pages = sent.iter().map(|sent| Received::new(sent, slots)).collect::<Option<Vec<_>>>().ok_or(Broken::Slots)?;
     pages.sort_by_key(|page| page.sent.slot);
     let with_line = || pages.iter().filter(|page| page.address_read());
     let lines = || read.lines.split_inclusive(|&byte| byte == b'\n');
 
-    holds(read.lost as usize == flips.iter().filter(|&&flips| flips == 3).count(), Broken::Lost)?;
+    holds(read.lost as usize == slots.iter().filter(|&&flips| flips == 3).count(), Broken::Lost)?;
     holds(lines().count() == with_line().count(), Broken::OneLineEach)?;
     holds(read.pages as usize == lines().count(), Broken::Pages)?;
     for (page, line) in with_line().zip(lines()) {
@@ -71,7 +101,9 @@ pub fn judge(sent: &[Sent], flips: &[u32], read: &Log) -> Result<(), Broken> {
             page.cut(line)?;
         }
     }
-    holds(read.orphans as usize == pages.iter().map(Received::orphans).sum(), Broken::Orphans)
+    holds(read.orphans as usize == pages.iter().map(Received::orphans).sum(), Broken::Orphans)?;
+    holds(read.changed.slots == flips.changed().slots, Broken::ChangedSlots)?;
+    holds(read.changed.syncs == flips.changed().syncs, Broken::ChangedSyncs)
 }
 
 fn holds(fact: bool, otherwise: Broken) -> Result<(), Broken> {
@@ -164,12 +196,13 @@ mod tests {
     use crate::reader::log_of_words;
     use crate::send::Accepted;
 
-    /// A job, the slots that are lost, the lines that are read, and the orphans.
+    /// A job, the slots that are lost, the lines that are read, the orphans, and the bits changed.
     struct Day {
         job: &'static [u8],
         lost: &'static [usize],
         lines: &'static str,
         orphans: u32,
+        changed: Changes,
     }
 
     /// Addresses in slots 9, 0, 3, 4, 14, 15 and 12. Lost are the end of a message, the start of one, the slot behind one, and the
@@ -179,6 +212,7 @@ mod tests {
         lost: &[2, 5, 11, 15],
         lines: "000000 4 3132333435-\n000001 2\n000002 3-\n000004 4 3132-\n000006 5 41\n000007 0-\n",
         orphans: 2,
+        changed: Changes { slots: 12, syncs: 1 },
     };
 
     /// Addresses in slots 0, 4, 7, 12, 15, 16, 17, 30 and 31, the last of all. Lost are the second word of a page whose first is spaces,
@@ -188,12 +222,13 @@ mod tests {
         lost: &[2, 5, 9, 12],
         lines: "000000 4-\n000002 0-\n000003 5 4142-\n000007 1\n000008 1\n000008 2\n00000F 0\n000017 3\n",
         orphans: 3,
+        changed: Changes { slots: 27, syncs: 1 },
     };
 
     impl Day {
         /// The words behind the preamble as received: three flips in the lost slots, none to two in the other words.
         fn received(&self, batches: &[u32]) -> Vec<u32> {
-            let few = batches.iter().enumerate().map(|(i, word)| word ^ [0, 1 << 31, 0x0001_0001][i % 3]);
+            let few = batches.iter().enumerate().map(|(i, word)| word ^ [1 << 31, 0x0001_0001, 0][i % 3]);
             let mut received: Vec<u32> = few.collect();
             for slot in self.lost {
                 let at = slot + slot / 16 + 1;
@@ -202,8 +237,8 @@ mod tests {
             received
         }
 
-        /// The reported slots, the flips of each slot, and what is read.
-        fn read(&self) -> (Vec<u32>, Vec<u32>, Log) {
+        /// The reported slots, the flips, and what is read.
+        fn read(&self) -> (Vec<u32>, Flips, Log) {
             let accepted = Accepted::new(self.job).unwrap();
             let batches = accepted.words().split_off(18);
             let received = self.received(&batches);
@@ -214,7 +249,8 @@ mod tests {
         fn judged(&self, change: impl FnOnce(&mut Log)) -> Result<(), Broken> {
             let (slots, flips, mut log) = self.read();
             let pages = self.lines.lines().count() as u32;
-            assert_eq!(log, Log { lines: self.lines.into(), pages, lost: self.lost.len() as u32, orphans: self.orphans });
+            let lost = self.lost.len() as u32;
+            assert_eq!(log, Log { lines: self.lines.into(), pages, lost, orphans: self.orphans, changed: self.changed });
             change(&mut log);
             judge(&sent(self.job, &slots), &flips, &log)
         }
@@ -300,13 +336,17 @@ mod tests {
 
     #[test]
     fn counts() {
-        for (lost, orphans, pages, broken) in [(1, 0, 0, Broken::Lost), (0, 1, 0, Broken::Orphans), (0, 0, 1, Broken::Pages)] {
-            let more =
-                |log: &mut Log| (log.lost, log.orphans, log.pages) = (log.lost + lost, log.orphans + orphans, log.pages + pages);
-            let fewer =
-                |log: &mut Log| (log.lost, log.orphans, log.pages) = (log.lost - lost, log.orphans - orphans, log.pages - pages);
-            assert_eq!(FIRST.judged(more), Err(broken));
-            assert_eq!(FIRST.judged(fewer), Err(broken));
+        type Count = fn(&mut Log) -> &mut u32;
+        let counts: [(Count, Broken); 5] = [
+            (|log| &mut log.lost, Broken::Lost),
+            (|log| &mut log.orphans, Broken::Orphans),
+            (|log| &mut log.pages, Broken::Pages),
+            (|log| &mut log.changed.slots, Broken::ChangedSlots),
+            (|log| &mut log.changed.syncs, Broken::ChangedSyncs),
+        ];
+        for (count, broken) in counts {
+            assert_eq!(FIRST.judged(|log| *count(log) += 1), Err(broken));
+            assert_eq!(FIRST.judged(|log| *count(log) -= 1), Err(broken));
         }
     }
 

@@ -7,6 +7,13 @@ use crate::placement::BATCH_WORDS;
 use crate::text;
 use crate::{Refusal, DIGITS, TOO_SHORT};
 
+/// Bits that correction changed: in the slots' words, but for lost ones, and in the sync words.
+#[derive(Clone, Copy, Debug, Default, PartialEq, Eq)]
+pub struct Changes {
+    pub slots: u32,
+    pub syncs: u32,
+}
+
 /// Page lines and what was counted on the way.
 #[derive(Clone, Debug, Default, PartialEq, Eq)]
 pub struct Log {
@@ -14,6 +21,7 @@ pub struct Log {
     pub pages: u32,
     pub lost: u32,
     pub orphans: u32,
+    pub changed: Changes,
 }
 
 /// What is reported when the page lines went to a lent slice.
@@ -23,6 +31,7 @@ pub struct Reading {
     pub pages: u32,
     pub lost: u32,
     pub orphans: u32,
+    pub changed: Changes,
 }
 
 /// The page that is open; its groups of message bits are kept beside it, so that their memory is used again.
@@ -41,19 +50,24 @@ struct Reader {
 
 impl Reader {
     fn word(&mut self, word: u32, frame: u32) {
-        match codeword::correct(word).map(codeword::meaning) {
-            None | Some(Meaning::Reserved) => {
-                self.log.lost += 1;
-                self.close(true);
-            }
-            Some(Meaning::Idle) => self.close(false),
-            Some(Meaning::Address { upper, function }) => {
+        let Some(near) = codeword::correct(word) else { return self.lose() };
+        match codeword::meaning(near) {
+            Meaning::Reserved => return self.lose(),
+            Meaning::Idle => self.close(false),
+            Meaning::Address { upper, function } => {
                 self.close(false);
                 self.open = Some(Open { identity: upper << 3 | frame, function });
             }
-            Some(Meaning::Message(_)) if self.open.is_none() => self.log.orphans += 1,
-            Some(Meaning::Message(group)) => self.groups.push(group),
+            Meaning::Message(_) if self.open.is_none() => self.log.orphans += 1,
+            Meaning::Message(group) => self.groups.push(group),
         }
+        self.log.changed.slots += codeword::changed(word, near);
+    }
+
+    /// A lost word: what was mended in it isn't counted.
+    fn lose(&mut self) {
+        self.log.lost += 1;
+        self.close(true);
     }
 
     fn close(&mut self, cut: bool) {
@@ -107,6 +121,7 @@ fn read(words: &[u32]) -> Result<Log, Refusal> {
     }
     let mut reader = Reader::default();
     for batch in batches {
+        reader.log.changed.syncs += codeword::changed(batch[0], codeword::SYNC);
         for (frame, pair) in batch[1..].chunks_exact(2).enumerate() {
             reader.word(pair[0], frame as u32);
             reader.word(pair[1], frame as u32);
@@ -135,7 +150,7 @@ pub fn log_of_listing(listing: &[u8]) -> Result<Log, Refusal> {
 fn hand_over(log: Log, out: &mut [u8]) -> Result<Reading, Refusal> {
     let bytes = log.lines.len();
     out.get_mut(..bytes).ok_or(TOO_SHORT)?.copy_from_slice(&log.lines);
-    Ok(Reading { bytes, pages: log.pages, lost: log.lost, orphans: log.orphans })
+    Ok(Reading { bytes, pages: log.pages, lost: log.lost, orphans: log.orphans, changed: log.changed })
 }
 
 /// The page lines of a slice of words, over the front of the lent slice.
@@ -165,6 +180,12 @@ mod tests {
     fn log(words: &[u32]) -> (String, u32, u32, u32) {
         let log = log_of_words(words).unwrap();
         (String::from_utf8(log.lines).unwrap(), log.pages, log.lost, log.orphans)
+    }
+
+    /// Bits changed in the slots and in the syncs.
+    fn changed(words: &[u32]) -> (u32, u32) {
+        let Changes { slots, syncs } = log_of_words(words).unwrap().changed;
+        (slots, syncs)
     }
 
     fn fault(words: &[u32]) -> Option<(u32, usize)> {
@@ -249,6 +270,54 @@ mod tests {
     }
 
     #[test]
+    fn changed_bits() {
+        // an orphan, an address, its message word, idle
+        let slots = [message(TWELVE), address(0, 0), message(TWELVE), IDLE];
+        let changes =
+            [(0, 0), (1, 1), (1 << 31, 1), (0x0040_0000, 1), (3, 2), (0x8000_0001, 2), (0x0804_0000, 2), (7, 0), (0x8001_0001, 0)];
+        for (flips, count) in changes {
+            for at in 0..4 {
+                let mut received = batch(&slots);
+                received[1 + at] ^= flips;
+                assert_eq!(changed(&received), (count, 0), "{flips:08X} in slot {at}");
+            }
+            // in all slots, of which no word is lost or every word
+            let received: Vec<u32> = batch(&slots).iter().map(|word| word ^ flips).collect();
+            assert_eq!(changed(&[&[SYNC], &received[1..]].concat()), (16 * count, 0));
+        }
+        // every sync apart from the slots
+        let mut three = batch(&slots).repeat(3);
+        three[0] ^= 1;
+        three[34] ^= 0x8000_0001;
+        assert_eq!(changed(&three), (0, 3));
+        three[18] ^= 0x8000_0000;
+        three[33] ^= 0x0101_0000;
+        three[50] ^= 1;
+        assert_eq!(changed(&three), (4, 3));
+    }
+
+    #[test]
+    fn lost_words_count_no_changed_bits() {
+        for upper in codeword::RESERVED {
+            for function in 0..4 {
+                let word = encode(upper << 2 | function);
+                for i in 0..32 {
+                    for j in 0..=i {
+                        let flips = 1 << i | 1 << j;
+                        let log = log_of_words(&batch(&[word ^ flips, message(0) ^ 1])).unwrap();
+                        let (lost, slots) = if word == IDLE { (0, flips.count_ones()) } else { (1, 0) };
+                        assert_eq!(
+                            (log.lost, log.changed),
+                            (lost, Changes { slots: slots + 1, syncs: 0 }),
+                            "{word:08X} {flips:08X}"
+                        );
+                    }
+                }
+            }
+        }
+    }
+
+    #[test]
     fn the_longest_answers() {
         let m = message(TWELVE);
         let long = |function, group: u32| {
@@ -290,12 +359,15 @@ mod tests {
 
     #[test]
     fn short_buffers() {
-        let words = batch(&[address(0, 0), message(TWELVE)]);
+        let mut words = batch(&[address(0, 0), message(TWELVE)]);
+        words[0] ^= 0x8000_0001;
+        words[2] ^= 1;
         let line = b"000000 4 3132\n";
         let mut out = [7; 15];
         assert_eq!(read_words(&words, &mut out[..13]), Err(Refusal::new(10, 0)));
         assert_eq!(out, [7; 15]);
-        assert_eq!(read_words(&words, &mut out), Ok(Reading { bytes: 14, pages: 1, lost: 0, orphans: 0 }));
+        let changed = Changes { slots: 1, syncs: 2 };
+        assert_eq!(read_words(&words, &mut out), Ok(Reading { bytes: 14, pages: 1, lost: 0, orphans: 0, changed }));
         assert_eq!((&out[..14], out[14]), (&line[..], 7));
     }
 }

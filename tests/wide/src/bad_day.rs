@@ -7,7 +7,7 @@ use generate::words::{damage, Damage, BATCH};
 use generate::{listings, Random};
 use independent::judge::{self, Sent};
 use independent::placement::PREAMBLE_WORDS;
-use independent::reader::Log;
+use independent::reader::{Changes, Log};
 
 /// One slot word in so many has three flips: from heavy damage to days on which most of the longest messages are whole.
 const RATES: &[usize] = &[2, 5, 20, 100, 500];
@@ -58,7 +58,8 @@ impl<'a> Transmission<'a> {
             return Err(self.wrong(received, &format!("{how}: reading answers {reading:?}")));
         }
         out.truncate(reading.bytes);
-        let log = Log { lines: out, pages: reading.pages, lost: reading.lost, orphans: reading.orphans };
+        let changed = Changes { slots: reading.changed.slots, syncs: reading.changed.syncs };
+        let log = Log { lines: out, pages: reading.pages, lost: reading.lost, orphans: reading.orphans, changed };
         judge::judge(&self.pages, &judge::flips(&self.batches, received), &log).map_err(|broken| {
             let what = format!("{how}: R-9 is broken: {broken:?}\n{reading:?}\nlines:\n{}", shown(&log.lines));
             self.wrong(received, &what)
@@ -114,10 +115,12 @@ impl Comparison {
     fn damaged(&mut self, transmission: &Transmission, received: &[u32]) -> Outcome {
         for (&sent, &word) in transmission.batches.iter().zip(received) {
             let answer = card::correct(word);
-            let lost = (sent ^ word).count_ones() == 3;
-            let right = if lost { answer.number == 20 } else { answer == card::Word { word: sent, number: 0 } };
-            if !right {
-                let what = format!("{word:08X} for {sent:08X} is answered {:08X}, number {}", answer.word, answer.number);
+            let expected = match (sent ^ word).count_ones() {
+                3 => card::Word { word, number: 20, changed: 0 },
+                changed => card::Word { word: sent, number: 0, changed },
+            };
+            if answer != expected {
+                let what = format!("{word:08X} for {sent:08X} is answered {answer:X?}");
                 return Err(transmission.wrong(received, &what));
             }
         }

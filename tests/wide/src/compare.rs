@@ -5,7 +5,7 @@ use crate::states::Kept;
 use card::steps::{self, Step};
 use generate::{buffer_length, Random};
 use independent::send::Accepted;
-use independent::{codeword, reader, send, Refusal};
+use independent::{codeword, judge, reader, send, Refusal};
 use std::collections::BTreeMap;
 
 /// What was found to differ, ready to be printed.
@@ -34,10 +34,7 @@ impl Comparison {
     }
 
     pub fn correct(&mut self, word: u32) -> Outcome {
-        let expected = match codeword::correct(word) {
-            Some(word) => card::Word { word, number: 0 },
-            None => card::Word { word, number: 20 },
-        };
+        let expected = corrected(word);
         let got = card::correct(word);
         if got != expected {
             return differs("correct", got, expected, &format!("word {word:08X}"));
@@ -141,10 +138,13 @@ impl Comparison {
         let before: Lent<u8> = Lent::new(&mut self.random, length);
         let (mut out, mut out_got) = (before.clone(), before.clone());
         let expected = match independent(out.slice()) {
-            Ok(reader::Reading { bytes, pages, lost, orphans }) => {
-                card::Reading { place: 0, bytes, number: 0, pages, lost, orphans }
+            Ok(reader::Reading { bytes, pages, lost, orphans, changed: reader::Changes { slots, syncs } }) => {
+                card::Reading { place: 0, bytes, number: 0, pages, lost, orphans, changed: card::Changes { slots, syncs } }
             }
-            Err(Refusal { number, place }) => card::Reading { place, bytes: 0, number, pages: 0, lost: 0, orphans: 0 },
+            Err(Refusal { number, place }) => {
+                let changed = card::Changes { slots: 0, syncs: 0 };
+                card::Reading { place, bytes: 0, number, pages: 0, lost: 0, orphans: 0, changed }
+            }
         };
         if expected.number != 0 {
             out = before;
@@ -204,10 +204,11 @@ impl Comparison {
         order.sort_by_key(|&page| accepted.placement.slots[page]);
         let mut lines = Vec::new();
         order.iter().for_each(|&page| accepted.pages[page].print(&mut lines));
-        let expected = reader::Log { lines, pages: accepted.pages.len() as u32, lost: 0, orphans: 0 };
-
         let mut batches = words[18..].to_vec();
         generate::words::damage(&mut self.random, &mut batches, generate::words::Damage::Light);
+        let changed = judge::flips(&words[18..], &batches).changed();
+        let expected = reader::Log { lines, pages: accepted.pages.len() as u32, lost: 0, orphans: 0, changed };
+
         let listing = generate::listings::listing(9, 0xAAAA_AAAA, &batches);
         for log in [reader::log_of_words(&batches), reader::log_of_listing(&listing)] {
             if log.as_ref() != Ok(&expected) {
@@ -216,6 +217,14 @@ impl Comparison {
         }
         self.count("round trip of independent alone", 0);
         Ok(())
+    }
+}
+
+/// What the independent implementation answers for a single word.
+pub fn corrected(word: u32) -> card::Word {
+    match codeword::correct(word) {
+        Some(near) => card::Word { word: near, number: 0, changed: codeword::changed(word, near) },
+        None => card::Word { word, number: 20, changed: 0 },
     }
 }
 
