@@ -11,9 +11,10 @@ use lib.Bits.{bitXor, xor-lt, xor-self}
 use lib.Count.{onesIn}
 use lib.Dec.{T, leb, ltb, leb→le, ltb→lt}
 use Rattle.base.proofs.Bools.{and-left, and-right}
-use Rattle.codeword.specs.Code.{weight, obeys}
+use Rattle.codeword.specs.Code.{weight, obeys, sync}
 use Rattle.codeword.specs.CorrectionTheorem.{Near, Far}
 use Rattle.codeword.specs.Nearest.{distance, words, errors, orElse, firstCodeword, nearest}
+use Rattle.codeword.proofs.CodeLaws.{sync-obeying}
 use Rattle.codeword.proofs.Tests.{all, all-at}
 use Rattle.codeword.proofs.Unique.{in-errors, unique}
 use Rattle.codeword.proofs.XorLaws.{xor-cancel}
@@ -91,6 +92,10 @@ module _ (w : ℕ) (hw : w < 2 ^ 32) where
   -- where none is found, no codeword is at most two bits away
   pub none-near : nearest w ≡ none → Far w
   none-near q c n = let found : nearest w ≡ some c = nearest-is c n in let z : _≡_ {A = ℕ} 0 1 = cc in omega arith
+
+-- a word at most two bits away from sync is corrected to it
+pub sync-near : (w : ℕ) → w < 2 ^ 32 → distance w sync ≤ 2 → nearest w ≡ some sync
+sync-near w h d = nearest-is w h sync (record { codeword = sync-obeying; close = d })
 
 -- a word differs from itself in no bit
 pub distance-self : (c : ℕ) → distance c c ≡ 0

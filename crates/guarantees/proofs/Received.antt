@@ -12,7 +12,7 @@ use borrow.Author.Tests.{ltb-true, ltb-false}
 use Rattle.base.proofs.SearchLaws.{le-or-lt, sum-cong}
 use Rattle.codeword.specs.Code.{sync}
 use Rattle.codeword.specs.Nearest.{distance, nearest}
-use Rattle.codeword.proofs.NearestLaws.{distance-self}
+use Rattle.codeword.proofs.NearestLaws.{sync-near, distance-self}
 use Rattle.placement.specs.Placement.{Content, contentAt, batches}
 use Rattle.transmission.specs.Sending.{Sending, placementOf, AllAllowed}
 use Rattle.transmission.specs.Transmission.{codewordsOf, codewordIn, batchWord, wordAt, wordCount, transmissionOf}
@@ -24,7 +24,7 @@ use Rattle.reader.specs.Changed.{changed, unlessLost, slotChanged}
 use Rattle.reader.specs.Reading.{slotWord, syncWord, changesIn}
 use Rattle.reader.specs.Answers.{unsynced}
 use Rattle.guarantees.specs.Transport.{flipCount, Received, lostAt, flipsBut}
-use Rattle.guarantees.proofs.Words.{says, not-lost, corrected, refused, sync-corrected}
+use Rattle.guarantees.proofs.Words.{says, not-lost, corrected, refused}
 use Rattle.guarantees.proofs.SoFar.{saidIn}
 
 -- a word that isn't there has no flips
@@ -70,7 +70,7 @@ module _ (xs : List Sending) (most : ℕ) (words : List ℕ) (rec : Received mos
     says-sync : nearest (syncWord (drop 18 words) q) ≡ some sync
     says-sync =
         let inside : 18 + 17 * q < length words = omega (arith, size) in
-        sync-corrected (syncWord (drop 18 words) q) (rw (getD-drop 18 words (17 * q) 0) (rec .fits (18 + 17 * q) inside))
+        sync-near (syncWord (drop 18 words) q) (rw (getD-drop 18 words (17 * q) 0) (rec .fits (18 + 17 * q) inside))
         (omega (arith, sync-flips, rec .syncs q inside))
 
     pub all-synced : unsynced (drop 18 words) q ≡ false

@@ -27,22 +27,16 @@ use Rattle.reader.specs.declared.Meaning.the-variants.{Idle, Address, Message}
 
 -- ---- flips vanish
 
--- a word at most two bits away from one that obeys the code is corrected to it
-near-is : (w c : ℕ) → w < 2 ^ 32 → distance w c ≤ 2 → Obeying c → nearest w ≡ some c
-near-is w c h d o = correction-theorem .reads w c h (record { codeword = o; close = d })
-
-pub sync-corrected : (w : ℕ) → w < 2 ^ 32 → distance w code.sync ≤ 2 → nearest w ≡ some code.sync
-sync-corrected w h d = near-is w code.sync h d (correction-theorem .of-sync)
-
 obeying : (xs : List Sending) (c : Content) → Obeying (codewordIn (codewordsOf xs) c)
 unfolding codewordIn
 obeying xs idle = correction-theorem .of-idle
 obeying xs (address i) = correction-theorem .of-address _ _
 obeying xs (message i j) = correction-theorem .of-message _
 
+-- a word at most two bits away from what was sent is corrected to it
 pub corrected : (xs : List Sending) (c : Content) (w : ℕ) → w < 2 ^ 32 → distance w (codewordIn (codewordsOf xs) c) ≤ 2
     → nearest w ≡ some (codewordIn (codewordsOf xs) c)
-corrected xs c w h d = near-is w (codewordIn (codewordsOf xs) c) h d (obeying xs c)
+corrected xs c w h d = correction-theorem .reads w (codewordIn (codewordsOf xs) c) h (record { codeword = obeying xs c; close = d })
 
 -- one that is three bits away is refused
 pub refused : (xs : List Sending) (c : Content) (w : ℕ) → w < 2 ^ 32 → distance w (codewordIn (codewordsOf xs) c) ≡ 3 → nearest w ≡ none

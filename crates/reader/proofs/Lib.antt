@@ -1,5 +1,6 @@
 pub mod SymbolLaws
 pub mod ChangeLaws
+pub mod SyncLaws
 pub mod AnswerLaws
 pub mod Blocks
 pub mod PageLaws

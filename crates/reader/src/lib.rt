@@ -1,14 +1,14 @@
 // Words or a listing to page lines and a report (document 01, "Listings and reading").
 ghost use mathlib.Core.Path.{_≡_};
-ghost use Prim.Native.Nat.{ℕ, _+_, _*_, _/_, _≤_, _<_};
-ghost use lib.ListN.{length, getD};
+ghost use Prim.Native.Nat.{_+_, _*_, _/_, _≤_, _<_};
+ghost use lib.ListN.{length};
 ghost use Rattle.base.specs.Lists.{over};
 ghost use Rattle.base.specs.Search.{sum};
 ghost use Rattle.codeword.specs.Code.{sync};
 ghost use Rattle.codeword.specs.Nearest.{distance, nearest};
 ghost use Rattle.listing.specs.Words.{wordsOf};
 ghost use Rattle.reader.specs.Meaning.{codewordMeaning, meaning, isSync};
-ghost use Rattle.reader.specs.Changed.{slotChanged, slotsChanged};
+ghost use Rattle.reader.specs.Changed.{unlessLost, slotChanged, slotsChanged};
 ghost use Rattle.reader.specs.Reading.{closedAs, slotWord, syncWord};
 ghost use Rattle.reader.specs.Lines.{kindHeard, fives, digitsHeard, lineHeard};
 ghost use Rattle.reader.specs.Answers.{firstUnsynced, printedInto, linesOf, readBatches, readWords, faultOf, readListing, linesRead, numberOf, placeOf};
@@ -103,6 +103,16 @@ fn symbol(c: Codeword) -> u32
     bits
 }
 
+// How many of the changed bits count: none where the word is lost.
+fn counted(symbol: u32, changed: u32) -> u32
+    ensures { λ r. ⌜ r ≡ unlessLost (said symbol) changed ⌝ }
+{
+    if symbol < LOST {
+        return changed;
+    }
+    0
+}
+
 // A received word, corrected.
 fn read_word(word: u32) -> ReadWord
     ensures { λ r. ⌜ said (r .symbol) ≡ meaning (nearest word) ⌝ }
@@ -115,20 +125,14 @@ fn read_word(word: u32) -> ReadWord
         };
     };
     let symbol = symbol(c);
-    if LOST <= symbol {
-        return ReadWord {
-            symbol: LOST,
-            changed: 0,
-        };
-    }
     ReadWord {
         symbol: symbol,
-        changed: changed,
+        changed: counted(symbol, changed),
     }
 }
 
 // In how many bits a word and sync differ.
-fn from_sync(word: u32) -> u32
+fn sync_distance(word: u32) -> u32
     ensures { λ r. ⌜ r ≡ distance word sync ⌝ }
 {
     u32::count_ones(word ^ Codeword::SYNC.word())
@@ -138,7 +142,7 @@ fn from_sync(word: u32) -> u32
 fn is_sync(word: u32) -> bool
     ensures { λ r. ⌜ r ≡ isSync (nearest word) ⌝ }
 {
-    from_sync(word) <= 2
+    sync_distance(word) <= 2
 }
 
 // The first batch, from 0, whose first word does not correct to sync, or the number of batches.
@@ -165,7 +169,7 @@ fn syncs_changed(words: &[u32]) -> u32
     let mut changed = 0;
     let mut q = 0;
     while q < batches {
-        changed += from_sync(words[17 * q]);
+        changed += sync_distance(words[17 * q]);
         q += 1;
     }
     changed

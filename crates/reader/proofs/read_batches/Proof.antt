@@ -15,7 +15,7 @@ use Rattle.reader.specs.Symbols.{Tells, heardBy}
 use Rattle.reader.specs.declared.Changes.{Changes}
 use Rattle.reader.specs.declared.Fault.the-variants.{Unsynced}
 use Rattle.reader.specs.declared.Reading.the-variants.{Declined}
-use Rattle.reader.proofs.ChangeLaws.{syncs-same}
+use Rattle.reader.proofs.SyncLaws.{syncs-same}
 use Rattle.reader.proofs.AnswerLaws.{heard-same, batches-unsynced, batches-read}
 use Rattle.reader.proofs.read_batches.Statement.{statement}
 use Rattle.reader.proofs.read_batches.Tie as tie

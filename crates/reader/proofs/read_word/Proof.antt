@@ -1,7 +1,7 @@
 -- `reader::read_word` meets its contract: a refused word leaves at once as lost. Assumes nothing.
 use mathlib.Core.Path.{sym, _∙_}
 use borrow.Author.Needs.{needs}
-use Rattle.reader.proofs.ChangeLaws.{read-refused, read-lost, read-kept}
+use Rattle.reader.proofs.ChangeLaws.{refused-word, corrected-word}
 use Rattle.reader.proofs.read_word.Statement.{statement}
 use Rattle.reader.proofs.read_word.Tie as tie
 
@@ -15,24 +15,22 @@ enum-told : tie.Need-enum-told
 enum-told c = search needs
 
 returns : tie.Need-returns
-returns c = read-refused (c .before .before .before .args .word) (sym (c .enum-told .given .1) ∙ c .before .before .correct .ensures)
+returns c = refused-word (c .before .before .before .args .word) (sym (c .enum-told .given .1) ∙ c .before .before .correct .ensures)
 
 symbol-requires : tie.Need-symbol-requires
 symbol-requires c κs = search needs
 
+counted-requires : tie.Need-counted-requires
+counted-requires c κs = search needs
+
 returns-2 : tie.Need-returns-2
 returns-2 c =
-    let s = c .before .before .before .before .before .before in
-    read-lost (s .args .word) _ _ (sym (c .before .before .before .c .given .1) ∙ c .before .before .before .before .before .correct .ensures)
-    (c .before .symbol .result) (c .before .symbol .ensures) (c .if1 .taken)
-
-returns-3 : tie.Need-returns-3
-returns-3 c =
-    let s = c .before .before .before .before .before .before in
-    read-kept (s .args .word) _ _ (sym (c .before .before .before .c .given .1) ∙ c .before .before .before .before .before .correct .ensures)
-    (c .before .symbol .result) (c .before .symbol .ensures) (c .if1 .left)
+    let s = c .before in
+    let m = s .before .before .before .before in
+    corrected-word (m .before .args .word) _ _ (sym (s .before .before .c .given .1) ∙ m .correct .ensures) (s .symbol .result) _
+    (s .symbol .ensures) (c .counted .ensures)
 
 pub read-word-spec : {M : Type 1} → statement M
 read-word-spec =
     tie.close
-    (tie.spec correct-requires enum-known-c enum-told returns symbol-requires returns-2 returns-3)
+    (tie.spec correct-requires enum-known-c enum-told returns symbol-requires counted-requires returns-2)

@@ -1,6 +1,6 @@
 -- `reader::syncs_changed` meets its contract. Assumes nothing.
 use mathlib.Core.Path.{_≡_}
-use Prim.Native.Nat.{ℕ, _+_, _-_, _/_, _≤_}
+use Prim.Native.Nat.{_+_, _-_, _/_, _≤_}
 use lib.ListN.{length}
 use native.Mathlib.Omega.{arith}
 use denote.Ref.{now}
@@ -10,7 +10,7 @@ use Rattle.base.proofs.SearchLaws.{sum-none, sum-next, sum-most}
 use Rattle.codeword.specs.Code.{sync}
 use Rattle.codeword.specs.Nearest.{distance}
 use Rattle.reader.specs.Reading.{syncWord}
-use Rattle.reader.proofs.ChangeLaws.{sync-few}
+use Rattle.reader.proofs.SyncLaws.{sync-few}
 use Rattle.reader.proofs.syncs_changed.Statement.{statement}
 use Rattle.reader.proofs.syncs_changed.Tie as tie
 
@@ -23,23 +23,23 @@ abbrev μ-loop : tie.MeasureT-loop
 loop-holds : tie.Need-loop-holds Inv-loop μ-loop
 loop-holds c = (omega arith, sum-none _)
 
-mul-from-sync : tie.Need-mul-from-sync Inv-loop μ-loop
-mul-from-sync c = omega arith
+mul-sync-distance : tie.Need-mul-sync-distance Inv-loop μ-loop
+mul-sync-distance c = omega arith
 
-mul-from-sync-2 : tie.Need-mul-from-sync-2 Inv-loop μ-loop
-mul-from-sync-2 c = omega arith
+mul-sync-distance-2 : tie.Need-mul-sync-distance-2 Inv-loop μ-loop
+mul-sync-distance-2 c = omega arith
 
-shared-slice-read-from-sync : tie.Need-shared-slice-read-from-sync Inv-loop μ-loop
-shared-slice-read-from-sync c = omega arith
+shared-slice-read-sync-distance : tie.Need-shared-slice-read-sync-distance Inv-loop μ-loop
+shared-slice-read-sync-distance c = omega arith
 
-from-sync-requires : tie.Need-from-sync-requires Inv-loop μ-loop
-from-sync-requires c κs = search needs
+sync-distance-requires : tie.Need-sync-distance-requires Inv-loop μ-loop
+sync-distance-requires c κs = search needs
 
 -- the sum with this batch's bits
-next : (c : tie.After-from-sync Inv-loop μ-loop)
-    → c .before .before .before .loop .changed + c .from-sync .result
+next : (c : tie.After-sync-distance Inv-loop μ-loop)
+    → c .before .before .before .loop .changed + c .sync-distance .result
     ≡ sum (λ q. distance (syncWord (now (c .before .before .before .before .before .args .words)) q) sync) (c .before .before .before .loop .q + 1)
-next c = let l = c .before .before .before .loop in sum-next _ (l .q) (l .inv .1) (c .from-sync .ensures)
+next c = let l = c .before .before .before .loop in sum-next _ (l .q) (l .inv .1) (c .sync-distance .ensures)
 
 add-changed : tie.Need-add-changed Inv-loop μ-loop
 add-changed c =
@@ -69,10 +69,10 @@ syncs-changed-spec =
     Inv-loop
     μ-loop
     loop-holds
-    mul-from-sync
-    mul-from-sync-2
-    shared-slice-read-from-sync
-    from-sync-requires
+    mul-sync-distance
+    mul-sync-distance-2
+    shared-slice-read-sync-distance
+    sync-distance-requires
     add-changed
     add-q
     loop-less
