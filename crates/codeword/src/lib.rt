@@ -4,7 +4,7 @@ ghost use Prim.Native.Nat.{_/_, _%_, _^_, _<_};
 ghost use lib.Dec.{eqb};
 ghost use Rattle.codeword.specs.Answer.{answer};
 ghost use Rattle.codeword.specs.Code.{remainder, weight, codeword, sync, idle, addressBits, messageBits};
-ghost use Rattle.codeword.specs.Nearest.{nearest};
+ghost use Rattle.codeword.specs.Nearest.{distance, nearest};
 ghost use Rattle.codeword.specs.Places.{checks, wrongBits};
 
 // A word of 32 bits that obeys the code: bit 1, sent first, is the top bit.
@@ -36,13 +36,6 @@ impl Codeword {
     {
         let Codeword(word) = self;
         word
-    }
-
-    // Whether this is the sync codeword.
-    pub fn is_sync(self) -> bool
-        ensures { λ r. ⌜ r ≡ eqb (self .0) sync ⌝ }
-    {
-        self.0 == Codeword::SYNC.0
     }
 
     // Whether this is the idle codeword.
@@ -84,6 +77,13 @@ pub fn correct(word: u32) -> Correction
     // Some bit is wrong, and no third: where the parity is odd it is one, where it is even they are two.
     let changed = 2 - odd;
     Correction::Corrected(Codeword(word ^ wrong ^ bit_32), changed)
+}
+
+// In how many bits a word and sync differ. The word corrects to sync exactly if they are at most two.
+pub fn sync_distance(word: u32) -> u32
+    ensures { λ r. ⌜ r ≡ distance word sync ⌝ }
+{
+    u32::count_ones(word ^ Codeword::SYNC.0)
 }
 
 // The codeword of 21 information bits.

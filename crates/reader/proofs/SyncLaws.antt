@@ -6,9 +6,8 @@ use mathlib.Core.Logic.{⊎-elim}
 use mathlib.Core.Option.{Option, none, some}
 use Prim.Native.Nat.{ℕ, _/_, _^_, _≤_, _<_}
 use native.Mathlib.Omega.{arith}
-use lib.Bits.{bitXor, xor-lt}
-use lib.Count.{ones}
-use lib.Dec.{leb, lit<}
+use lib.Bits.{bitXor}
+use lib.Dec.{leb}
 use lib.ListN.{length}
 use borrow.Author.Tests.{le-leb, lt-leb, eqb-true, ne-eqb}
 use Rattle.base.specs.Search.{sum}
@@ -17,17 +16,12 @@ use Rattle.base.proofs.SearchLaws.{least-is, le-or-lt, sum-cong}
 use Rattle.codeword.specs.Answer.{answer, changedOf}
 use Rattle.codeword.specs.Code.{sync}
 use Rattle.codeword.specs.Nearest.{distance, nearest}
-use Rattle.codeword.proofs.CodeLaws.{weight-few, weight-ones}
+use Rattle.codeword.proofs.CodeLaws.{weight-few}
 use Rattle.codeword.proofs.NearestLaws.{nearest-near, sync-near}
 use Rattle.reader.specs.Meaning.{isSync}
 use Rattle.reader.specs.Changed.{changed, syncsChanged}
 use Rattle.reader.specs.Reading.{syncWord}
 use Rattle.reader.specs.Answers.{unsynced, firstUnsynced}
-
--- `count_ones` counts the bits that differ
-pub sync-ones : (w s : ℕ) → w < 2 ^ 32 → s ≡ sync → ones (bitXor w s) ≡ distance w sync
-unfolding distance
-sync-ones w s h e = rw e (weight-ones (bitXor w sync) (xor-lt 32 w sync h (lit< tt)))
 
 pub sync-few : (w : ℕ) → distance w sync ≤ 32
 unfolding distance

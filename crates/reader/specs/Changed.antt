@@ -7,18 +7,18 @@ use Rattle.reader.specs.Meaning.{meaning}
 use Rattle.reader.specs.declared.Meaning.{Meaning}
 use Rattle.reader.specs.declared.Meaning.the-variants.{Lost, Idle, Address, Message}
 
--- in a word
+-- how many bits reading changes in a word; zero where it is refused
 abbrev pub changed : ℕ → ℕ
 changed w = changedOf (answer w (nearest w))
 
--- a lost word counts zero, whatever was mended in it
+-- how many of them count, by what the word says: none where it is lost, whatever was mended in it
 abbrev pub unlessLost : Meaning → ℕ → ℕ
 unlessLost Lost n = 0
 unlessLost Idle n = n
 unlessLost (Address u f) n = n
 unlessLost (Message b) n = n
 
--- in the word of a slot
+-- how many count in a slot's word
 unfoldable pub slotChanged : ℕ → ℕ
 slotChanged w = unlessLost (meaning (nearest w)) (changed w)
 

@@ -131,18 +131,11 @@ fn read_word(word: u32) -> ReadWord
     }
 }
 
-// In how many bits a word and sync differ.
-fn sync_distance(word: u32) -> u32
-    ensures { λ r. ⌜ r ≡ distance word sync ⌝ }
-{
-    u32::count_ones(word ^ Codeword::SYNC.word())
-}
-
 // Whether a word corrects to sync: whether at most two bits differ.
 fn is_sync(word: u32) -> bool
     ensures { λ r. ⌜ r ≡ isSync (nearest word) ⌝ }
 {
-    sync_distance(word) <= 2
+    codeword::sync_distance(word) <= 2
 }
 
 // The first batch, from 0, whose first word does not correct to sync, or the number of batches.
@@ -169,7 +162,7 @@ fn syncs_changed(words: &[u32]) -> u32
     let mut changed = 0;
     let mut q = 0;
     while q < batches {
-        changed += sync_distance(words[17 * q]);
+        changed += codeword::sync_distance(words[17 * q]);
         q += 1;
     }
     changed
