@@ -61,7 +61,7 @@ impl<'a> Transmission<'a> {
         let changed = Changes { slots: reading.changed.slots, syncs: reading.changed.syncs };
         let log = Log { lines: out, pages: reading.pages, lost: reading.lost, orphans: reading.orphans, changed };
         judge::judge(&self.pages, &judge::flips(&self.batches, received), &log).map_err(|broken| {
-            let what = format!("{how}: R-9 is broken: {broken:?}\n{reading:?}\nlines:\n{}", shown(&log.lines));
+            let what = format!("{how}: broken: {broken:?}\n{reading:?}\nlines:\n{}", shown(&log.lines));
             self.wrong(received, &what)
         })
     }
