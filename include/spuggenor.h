@@ -35,7 +35,7 @@ extern "C" {
 struct card_word {
     uint32_t word;      /* the codeword at most two bits away, or the word itself where there is none */
     uint32_t number;    /* 0, or 20 */
-    uint32_t changed;   /* bits changed: 0, 1 or 2; none with number 20 */
+    uint32_t changed;   /* bits changed: 0, 1 or 2; 0 with number 20 */
 };
 
 /* Corrects a word, all 32 bits counted. */
@@ -69,7 +69,7 @@ struct card_bytes card_list(const uint8_t *job, size_t job_length, uint8_t *out,
 /* ---- reading */
 
 struct card_changes {
-    uint32_t slots;     /* bits changed in the slots' words, but for lost ones */
+    uint32_t slots;     /* bits changed in the slots' words; lost words count 0 */
     uint32_t syncs;     /* bits changed in the sync words */
 };
 

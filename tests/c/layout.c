@@ -17,6 +17,8 @@ CARD_ASSERT(sizeof(struct card_reading) == 40 && offsetof(struct card_reading, c
 /* the counts of a reading that is declined */
 #define ALL_ZERO(d) ((d).bytes == 0 && (d).pages == 0 && (d).lost == 0 && (d).orphans == 0 && (d).changed.slots == 0 && (d).changed.syncs == 0)
 
+/* "12" to 000009, then "123456", which takes two message codewords, to 00000F; the first line alone is 14 bytes */
+static const uint8_t job[] = "000009 4 3132\n00000F 4 313233343536\n";
 static struct card_sender state, kept;
 static uint32_t words[CARD_WORDS], slots[CARD_PAGES + 1];
 static uint8_t out[CARD_LISTING_BYTES];
@@ -28,9 +30,8 @@ static uint8_t out[CARD_LISTING_BYTES];
         EXPECT(card_step(&state).number == (expected)); \
         EXPECT((expected) == 0 || memcmp(&kept, &state, sizeof state) == 0); } while (0)
 
-int main(void) {
-    /* "12" to 000009, then "123456", which takes two message codewords, to 00000F */
-    static const uint8_t job[] = "000009 4 3132\n00000F 4 313233343536\n";
+/* every field of the state that a start gives; a declined start leaves it as it was */
+static void start(void) {
     memset(&state, 0xFF, sizeof state);
     struct card_refusal r = card_start(job, sizeof job - 1, &state);
     EXPECT(r.place == 0 && r.number == 0);
@@ -41,8 +42,13 @@ int main(void) {
     EXPECT(state.pages.lengths[0] == 1 && state.pages.lengths[1] == 2 && state.pages.lengths[47] == 0);
     EXPECT(state.pages.frames[0] == 1 && state.pages.frames[1] == 7 && state.pages.frames[47] == 0);
     EXPECT(state.sent[0] == 0 && state.sent[47] == 0 && state.words[0] == 0xC2199DEA && state.words[3] == 0 && state.words[4031] == 0);
+    memcpy(&kept, &state, sizeof state);
+    r = card_start((const uint8_t *)"000009 0\n200000 0\n", 18, &state);
+    EXPECT(r.place == 2 && r.number == 2 && memcmp(&kept, &state, sizeof state) == 0);
+}
 
-    /* number 11 at each limit */
+/* number 11 at each limit */
+static void limits(void) {
     STEP_WITH(cursor.slot, 4800, 0);
     STEP_WITH(cursor.slot, 4801, 11);
     STEP_WITH(pages.count, 48, 0);
@@ -59,23 +65,22 @@ int main(void) {
     EXPECT(a.number == 0 && a.done == 0 && a.word == state.words[2] && state.cursor.running == 0 && state.cursor.message == 1 && state.cursor.slot == 1);
     state.cursor.running = 1;
     EXPECT(card_step(&state).number == 11);
+}
 
-    /* the flag message makes an open slot the pause: a page with message codewords waits for the next one, a tone does not */
+/* the flag message makes an open slot the pause: a page with message codewords waits for the next one, a tone does not */
+static void pause_slot(void) {
     for (uint16_t length = 0; length < 2; length++) {
         card_start(job, sizeof job - 1, &state);
         state.cursor.preamble = 0; state.cursor.slot = 2; state.cursor.message = 255; state.pages.lengths[0] = length;
-        a = card_step(&state);
+        struct card_step_answer a = card_step(&state);
         EXPECT(a.word == (length ? 0x7A89C197 : 0x000026EC) && (state.sent[0] == 0) == (length != 0) && state.cursor.message == 0);
         a = card_step(&state);
         EXPECT(a.word == (length ? 0x000026EC : 0x7A89C197) && state.sent[0] != 0);
     }
+}
 
-    /* a declined start leaves the state as it was */
-    memcpy(&kept, &state, sizeof state);
-    r = card_start((const uint8_t *)"000009 0\n200000 0\n", 18, &state);
-    EXPECT(r.place == 2 && r.number == 2 && memcmp(&kept, &state, sizeof state) == 0);
-
-    /* every field of the other answers */
+/* every field of the other answers */
+static void single_words(void) {
     struct card_word w = card_correct(0x00000003);
     EXPECT(w.word == 0 && w.number == 0 && w.changed == 2);
     w = card_correct(0x7A89C196);
@@ -84,6 +89,9 @@ int main(void) {
     EXPECT(w.word == 0x7A89C197 && w.number == 0 && w.changed == 0);
     w = card_correct(0x00000007);
     EXPECT(w.word == 7 && w.number == 20 && w.changed == 0);
+}
+
+static void sending(void) {
     slots[2] = 77; words[35] = 78;
     struct card_report s = card_send(job, 14, words, 35, slots, 1);
     EXPECT(s.place == 0 && s.number == 0 && s.batches == 1 && s.words == 35 && slots[0] == 2 && words[21] == 0x000026EC && words[35] == 78);
@@ -93,21 +101,27 @@ int main(void) {
     EXPECT(s.place == 1 && s.number == 1 && s.batches == 0 && s.words == 0);
     struct card_bytes l = card_list(job, 14, out, sizeof out);
     EXPECT(l.place == 0 && l.number == 0 && l.bytes == 315);
-    struct card_reading d = card_read_listing(out, l.bytes, out + 400, 14);
+}
+
+/* of the words and the listing that were sent */
+static void reading(void) {
+    struct card_reading d = card_read_listing(out, 315, out + 400, 14);
     EXPECT(d.place == 0 && d.number == 0 && d.bytes == 14 && d.pages == 1 && d.lost == 0 && d.orphans == 0 && memcmp(out + 400, job, 14) == 0);
     EXPECT(d.changed.slots == 0 && d.changed.syncs == 0);
-    d = card_read_listing(out, l.bytes, out + 400, 13);
+    d = card_read_listing(out, 315, out + 400, 13);
     EXPECT(d.place == 0 && d.number == 10 && ALL_ZERO(d));
-    d = card_read_listing(out, l.bytes - 1, out + 400, 14);
+    d = card_read_listing(out, 314, out + 400, 14);
     EXPECT(d.place == 18 && d.number == 21 && ALL_ZERO(d));
     words[20] = 7; words[21] = 0xC2199DEA;
     d = card_read_words(words + CARD_PREAMBLE_WORDS, 17, out, sizeof out);
     EXPECT(d.place == 0 && d.number == 0 && d.bytes == 0 && d.pages == 0 && d.lost == 1 && d.orphans == 2);
     EXPECT(d.changed.slots == 0 && d.changed.syncs == 0);
+}
 
-    /* bits changed in the sync, an idle, an orphan and an address; not in the words lost, of which one has the value of sync */
+/* bits changed in the sync, an idle, an orphan and an address; not in the words lost, of which one has the value of sync */
+static void changed_bits(void) {
     words[18] ^= 0x00000003; words[19] ^= 0x80000000; words[22] ^= 0x00010001; words[23] = 0x7CD215D9; words[24] = 0x000026EC ^ 0x00000401;
-    d = card_read_words(words + CARD_PREAMBLE_WORDS, 17, out, sizeof out);
+    struct card_reading d = card_read_words(words + CARD_PREAMBLE_WORDS, 17, out, sizeof out);
     EXPECT(d.place == 0 && d.number == 0 && d.bytes == 9 && d.pages == 1 && d.lost == 2 && d.orphans == 2 && memcmp(out, "00000A 0\n", 9) == 0);
     EXPECT(d.changed.slots == 5 && d.changed.syncs == 2);
     d = card_read_words(words + CARD_PREAMBLE_WORDS, 17, out, 8);
@@ -119,5 +133,15 @@ int main(void) {
     words[18] = 7;
     d = card_read_words(words + CARD_PREAMBLE_WORDS, 17, out, sizeof out);
     EXPECT(d.place == 1 && d.number == 22 && ALL_ZERO(d));
+}
+
+int main(void) {
+    start();
+    limits();
+    pause_slot();
+    single_words();
+    sending();
+    reading();
+    changed_bits();
     return wrong;
 }

@@ -31,6 +31,7 @@ abbrev pub wordRead : ℕ → Correction → ℕ
 wordRead w (correction-variants.Corrected c n) = c .0
 wordRead w correction-variants.Refused = w
 
+-- a word's answer
 abbrev pub wordFor : ℕ → Correction → CardWord
 wordFor w a = record { word = wordRead w a; number = correction.numberOf a; changed = correction.changedOf a }
 

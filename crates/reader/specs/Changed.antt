@@ -22,10 +22,10 @@ unlessLost (Message b) n = n
 unfoldable pub slotChanged : ℕ → ℕ
 slotChanged w = unlessLost (meaning (nearest w)) (changed w)
 
--- in the words of the first n slots
+-- how many count in the words of the first n slots
 abbrev pub slotsChanged : (ℕ → ℕ) → ℕ → ℕ
 slotsChanged word n = sum (λ s. slotChanged (word s)) n
 
--- in the first n sync words
+-- how many bits are changed in the first n sync words
 abbrev pub syncsChanged : (ℕ → ℕ) → ℕ → ℕ
 syncsChanged word n = sum (λ q. changed (word q)) n

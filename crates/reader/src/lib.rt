@@ -3,12 +3,10 @@ ghost use mathlib.Core.Path.{_≡_};
 ghost use Prim.Native.Nat.{_+_, _*_, _/_, _≤_, _<_};
 ghost use lib.ListN.{length};
 ghost use Rattle.base.specs.Lists.{over};
-ghost use Rattle.base.specs.Search.{sum};
-ghost use Rattle.codeword.specs.Code.{sync};
-ghost use Rattle.codeword.specs.Nearest.{distance, nearest};
+ghost use Rattle.codeword.specs.Nearest.{nearest};
 ghost use Rattle.listing.specs.Words.{wordsOf};
 ghost use Rattle.reader.specs.Meaning.{codewordMeaning, meaning, isSync};
-ghost use Rattle.reader.specs.Changed.{unlessLost, slotChanged, slotsChanged};
+ghost use Rattle.reader.specs.Changed.{unlessLost, slotChanged, slotsChanged, syncsChanged};
 ghost use Rattle.reader.specs.Reading.{closedAs, slotWord, syncWord};
 ghost use Rattle.reader.specs.Lines.{kindHeard, fives, digitsHeard, lineHeard};
 ghost use Rattle.reader.specs.Answers.{firstUnsynced, printedInto, linesOf, readBatches, readWords, faultOf, readListing, linesRead, numberOf, placeOf};
@@ -42,7 +40,7 @@ pub enum Fault {
     NoRoom,
 }
 
-// How many bits are changed: in the slots' words, but for lost ones, and in the sync words.
+// How many bits are changed in the slots' words, of which lost ones count 0, and in the sync words.
 #[repr(C)]
 pub struct Changes {
     pub slots: u32,
@@ -103,8 +101,8 @@ fn symbol(c: Codeword) -> u32
     bits
 }
 
-// How many of the changed bits count: none where the word is lost.
-fn counted(symbol: u32, changed: u32) -> u32
+// How many of the changed bits count, by the word's symbol: none where it is lost.
+fn unless_lost(symbol: u32, changed: u32) -> u32
     ensures { λ r. ⌜ r ≡ unlessLost (said symbol) changed ⌝ }
 {
     if symbol < LOST {
@@ -127,7 +125,7 @@ fn read_word(word: u32) -> ReadWord
     let symbol = symbol(c);
     ReadWord {
         symbol: symbol,
-        changed: counted(symbol, changed),
+        changed: unless_lost(symbol, changed),
     }
 }
 
@@ -153,10 +151,11 @@ fn first_unsynced(words: &[u32]) -> usize
     q
 }
 
-// In how many bits the first words of whole batches, 300 at most, and sync differ.
+// How many bits are changed in the sync words of whole batches, 300 at most, that all begin with sync.
 fn syncs_changed(words: &[u32]) -> u32
     requires { ⌜ length (now words) ≤ 5100 ⌝ }
-    ensures { λ r. ⌜ r ≡ sum (λ q. distance (syncWord (now (words .entry)) q) sync) (length (now (words .entry)) / 17) ⌝ }
+    requires { ⌜ length (now words) / 17 ≤ firstUnsynced (now words) ⌝ }
+    ensures { λ r. ⌜ r ≡ syncsChanged (syncWord (now (words .entry))) (length (now (words .entry)) / 17) ⌝ }
 {
     let batches = words.len() / 17;
     let mut changed = 0;

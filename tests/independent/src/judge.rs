@@ -1,5 +1,5 @@
-//! R-9 as checks of one reading of a damaged transmission, whoever read it. It goes by R-9's sentences alone: it knows how many bits
-//! were flipped in each word and looks at no codeword.
+//! R-9, and R-2's sums, as checks of one reading of a damaged transmission, whoever read it. It goes by their sentences alone: it knows
+//! how many bits were flipped in each word and looks at no codeword.
 
 use crate::job;
 use crate::placement::BATCH_WORDS;

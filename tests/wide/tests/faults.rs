@@ -13,7 +13,7 @@ fn without_a_mistake() {
     assert!(output.status.success(), "{}", String::from_utf8_lossy(&output.stdout));
 }
 
-/// Those that R-9's judge finds before anything else does.
+/// Those that the judge finds before anything else does.
 const JUDGED: &[&str] = &["reads-31-bits", "whole-before-a-lost-word", "joined-behind-a-lost-word", "cut-keeps-its-kind"];
 
 #[test]

@@ -15,7 +15,6 @@ use Rattle.reader.specs.Symbols.{Tells, heardBy}
 use Rattle.reader.specs.declared.Changes.{Changes}
 use Rattle.reader.specs.declared.Fault.the-variants.{Unsynced}
 use Rattle.reader.specs.declared.Reading.the-variants.{Declined}
-use Rattle.reader.proofs.SyncLaws.{syncs-same}
 use Rattle.reader.proofs.AnswerLaws.{heard-same, batches-unsynced, batches-read}
 use Rattle.reader.proofs.read_batches.Statement.{statement}
 use Rattle.reader.proofs.read_batches.Tie as tie
@@ -45,6 +44,9 @@ tells c = subst (λ (n : ℕ). Tells (now (read c .args .words)) n (symbols c)) 
 
 counted : (c : tie.After-read-slots) → c .read-slots .result ≡ slotsChanged (slotWord (now (read c .args .words))) (slots (read c))
 counted c = c .read-slots .ensures .1 ∙ ap (slotsChanged (slotWord (now (read c .args .words)))) (part-length (c .before .before))
+
+synced : (c : tie.After-read-slots) → length (now (read c .args .words)) / 17 ≤ firstUnsynced (now (read c .args .words))
+synced c = omega (arith, c .before .before .before .if1 .left, c .before .before .before .before .first-unsynced .ensures)
 
 -- the part that is lent on is the same
 abbrev behind : tie.After-read-slots → List ℕ
@@ -87,7 +89,7 @@ read-slots-requires c κs =
     (omega (arith, part-length (c .before)), omega (arith, part-length (c .before), blank (c .before) .pre))
 
 syncs-changed-requires : tie.Need-syncs-changed-requires
-syncs-changed-requires c κs = search needs
+syncs-changed-requires c κs = let r = c .before in (read r .pre, synced r)
 
 array-share-prefix-symbols : tie.Need-array-share-prefix-symbols
 array-share-prefix-symbols c =
@@ -110,13 +112,12 @@ returns-2 c =
     let words = now (a .words) in
     let room = length (now (a .out)) in
     let answer = c .before .before .read-symbols in
-    let synced : length words / 17 ≤ firstUnsynced words = omega (arith, r .before .before .before .if1 .left, r .before .before .before .before .first-unsynced .ensures) in
     let syncs = c .before .before .before .before .before .syncs-changed in
     let changed : Changes = record { slots = r .read-slots .result; syncs = syncs .result } in
-    let all : changed ≡ changesIn words = λ i. record { slots = counted r i; syncs = (syncs .ensures ∙ syncs-same words synced) i } in
+    let all : changed ≡ changesIn words = λ i. record { slots = counted r i; syncs = syncs .ensures i } in
     let heard : heardBy (take (slots (read r)) (symbols r ++ behind r)) changed ≡ heardIn words =
     ap (λ (l : List ℕ). heardBy l changed) (part-is r) ∙ heard-same words (symbols r) changed (tells r) all in (
-      answer .ensures .0 ∙ ap (λ (h : Heard). printedInto h room) heard ∙ batches-read words room synced,
+      answer .ensures .0 ∙ ap (λ (h : Heard). printedInto h room) heard ∙ batches-read words room (synced r),
       answer .ensures .1 ∙ ap (λ (h : Heard). over (now (a .out)) (linesOf (answer .result) h)) heard,
     )
 

@@ -20,17 +20,17 @@ returns c = refused-word (c .before .before .before .args .word) (sym (c .enum-t
 symbol-requires : tie.Need-symbol-requires
 symbol-requires c κs = search needs
 
-counted-requires : tie.Need-counted-requires
-counted-requires c κs = search needs
+unless-lost-requires : tie.Need-unless-lost-requires
+unless-lost-requires c κs = search needs
 
 returns-2 : tie.Need-returns-2
 returns-2 c =
     let s = c .before in
     let m = s .before .before .before .before in
     corrected-word (m .before .args .word) _ _ (sym (s .before .before .c .given .1) ∙ m .correct .ensures) (s .symbol .result) _
-    (s .symbol .ensures) (c .counted .ensures)
+    (s .symbol .ensures) (c .unless-lost .ensures)
 
 pub read-word-spec : {M : Type 1} → statement M
 read-word-spec =
     tie.close
-    (tie.spec correct-requires enum-known-c enum-told returns symbol-requires counted-requires returns-2)
+    (tie.spec correct-requires enum-known-c enum-told returns symbol-requires unless-lost-requires returns-2)

@@ -1,5 +1,5 @@
--- `reader::syncs_changed` meets its contract. Assumes nothing.
-use mathlib.Core.Path.{_≡_}
+-- `reader::syncs_changed` meets its contract: so far the bits that differ from sync are counted. Assumes nothing.
+use mathlib.Core.Path.{_≡_, ap, _∙_}
 use Prim.Native.Nat.{_+_, _-_, _/_, _≤_}
 use lib.ListN.{length}
 use native.Mathlib.Omega.{arith}
@@ -10,7 +10,7 @@ use Rattle.base.proofs.SearchLaws.{sum-none, sum-next, sum-most}
 use Rattle.codeword.specs.Code.{sync}
 use Rattle.codeword.specs.Nearest.{distance}
 use Rattle.reader.specs.Reading.{syncWord}
-use Rattle.reader.proofs.SyncLaws.{sync-few}
+use Rattle.reader.proofs.SyncLaws.{sync-few, syncs-same}
 use Rattle.reader.proofs.syncs_changed.Statement.{statement}
 use Rattle.reader.proofs.syncs_changed.Tie as tie
 
@@ -45,7 +45,7 @@ add-changed : tie.Need-add-changed Inv-loop μ-loop
 add-changed c =
     let l = c .before .before .before in
     let word = syncWord (now (l .before .before .args .words)) in
-    omega (arith, next c, sum-most (λ q. distance (word q) sync) 32 (l .loop .q + 1) (λ q. sync-few (word q)), l .before .before .pre)
+    omega (arith, next c, sum-most (λ q. distance (word q) sync) 32 (l .loop .q + 1) (λ q. sync-few (word q)), l .before .before .pre .0)
 
 add-q : tie.Need-add-q Inv-loop μ-loop
 add-q c = omega arith
@@ -59,8 +59,10 @@ loop-again c = (omega arith, next c)
 returns : tie.Need-returns Inv-loop μ-loop
 returns c =
     let l = c .before .loop in
-    let all : l .q ≡ length (now (c .before .before .before .args .words)) / 17 = omega arith in
-    rw all at (l .inv .1)
+    let a = c .before .before .before in
+    let words = now (a .args .words) in
+    let all : l .q ≡ length words / 17 = omega arith in
+    l .inv .1 ∙ ap (sum (λ q. distance (syncWord words q) sync)) all ∙ syncs-same words (a .pre .1)
 
 pub syncs-changed-spec : {M : Type 1} → statement M
 syncs-changed-spec =
