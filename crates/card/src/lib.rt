@@ -83,7 +83,7 @@ struct Begun {
     sent: [u8; 48],
 }
 
-// The codeword at most two bits away from a word, or the word itself and number 20.
+// The codeword at most two bits away from a word, and how many bits are changed; or the word itself and number 20.
 #[no_mangle]
 pub extern "C" fn card_correct(word: u32) -> CardWord
     ensures { λ r. ⌜ r ≡ wordFor word (answer word (nearest word)) ⌝ }

@@ -19,9 +19,9 @@ number-none w none e = refl
 number-none w (some c) e = absurd (omega arith)
 
 -- where there is one, it is at most two bits away
-changed-few : (w : ℕ) (o : Option ℕ) → ((c : ℕ) → o ≡ some c → Near w c) → changedOf (answer w o) ≤ 2
-changed-few w none near = omega arith
-changed-few w (some c) near = near c refl .close
+few-changed : (w : ℕ) (o : Option ℕ) → ((c : ℕ) → o ≡ some c → Near w c) → changedOf (answer w o) ≤ 2
+few-changed w none near = omega arith
+few-changed w (some c) near = near c refl .close
 
 pub correction-theorem : CorrectionTheorem
 correction-theorem =
@@ -37,7 +37,7 @@ correction-theorem =
       reads-near = λ w c h e. nearest-near w h c e;
       refuses = nearest-none;
       counts = λ w c h n. ap (λ (o : Option ℕ). changedOf (answer w o)) (nearest-is w h c n);
-      counts-few = λ w h. changed-few w (nearest w) (nearest-near w h);
+      counts-few = λ w h. few-changed w (nearest w) (nearest-near w h);
       refusal = λ w h f. (ap (λ (o : Option ℕ). numberOf (answer w o)) (nearest-none w h f), refl);
       refusal-far = λ w h e. none-near w h (number-none w (nearest w) e);
       counts-none = λ w h f. ap (λ (o : Option ℕ). changedOf (answer w o)) (nearest-none w h f);

@@ -1,4 +1,4 @@
--- A word with the bits flipped that are found for it is the nearest codeword, by the tests. Assumes nothing.
+-- A word with the bits flipped that are found for it is the nearest codeword, by the tests; and how many bits these are. Assumes nothing.
 use mathlib.Core.Path.{_≡_, refl, sym, ap, ap₂, _∙_, subst}
 use mathlib.Core.Bool.{_&&_}
 use mathlib.Core.Logic.{⊎-elim}

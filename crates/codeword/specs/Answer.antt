@@ -1,7 +1,7 @@
--- What the answers of a correction say, with document 01's number and place for each.
+-- What the answers of a correction say, with document 01's number and place for each, and R-2's count.
 use mathlib.Core.Option.{Option, none, some}
 use Prim.Native.Nat.{ℕ}
-use Rattle.codeword.specs.Nearest.{distance}
+use Rattle.codeword.specs.Nearest.{distance, nearest}
 use Rattle.codeword.specs.declared.Correction.{Correction}
 use Rattle.codeword.specs.declared.Correction.the-variants.{Corrected, Refused}
 
@@ -23,3 +23,7 @@ placeOf r = 0
 abbrev pub changedOf : Correction → ℕ
 changedOf Refused = 0
 changedOf (Corrected c n) = n
+
+-- how many bits reading a word changes
+abbrev pub changed : ℕ → ℕ
+changed w = changedOf (answer w (nearest w))

@@ -4,7 +4,7 @@ use mathlib.Core.Option.{none, some}
 use Prim.Native.Nat.{ℕ, _^_, _≤_, _<_}
 use lib.Bits.{bitXor}
 use lib.Dec.{T}
-use Rattle.codeword.specs.Answer.{answer, numberOf, placeOf, changedOf}
+use Rattle.codeword.specs.Answer.{answer, numberOf, placeOf, changed}
 use Rattle.codeword.specs.Code.{remainder, codeword, obeys, sync, idle, addressBits, messageBits}
 use Rattle.codeword.specs.Nearest.{distance, nearest}
 
@@ -37,12 +37,12 @@ pub record CorrectionTheorem : Type 0 where
   pub reads : (w c : ℕ) → w < 2 ^ 32 → Near w c → nearest w ≡ some c
   pub reads-near : (w c : ℕ) → w < 2 ^ 32 → nearest w ≡ some c → Near w c
   -- as many bits are changed as differ: none, one or two
-  pub counts : (w c : ℕ) → w < 2 ^ 32 → Near w c → changedOf (answer w (nearest w)) ≡ distance w c
-  pub counts-few : (w : ℕ) → w < 2 ^ 32 → changedOf (answer w (nearest w)) ≤ 2
+  pub counts : (w c : ℕ) → w < 2 ^ 32 → Near w c → changed w ≡ distance w c
+  pub counts-few : (w : ℕ) → w < 2 ^ 32 → changed w ≤ 2
   -- any other word is refused: number 20, place 0, is given exactly where no codeword is at most two bits away, and no bit is changed
   pub refuses : (w : ℕ) → w < 2 ^ 32 → Far w → nearest w ≡ none
   pub refusal : (w : ℕ) → w < 2 ^ 32 → Far w → (numberOf (answer w (nearest w)) ≡ 20) × (placeOf (answer w (nearest w)) ≡ 0)
   pub refusal-far : (w : ℕ) → w < 2 ^ 32 → numberOf (answer w (nearest w)) ≡ 20 → Far w
-  pub counts-none : (w : ℕ) → w < 2 ^ 32 → Far w → changedOf (answer w (nearest w)) ≡ 0
+  pub counts-none : (w : ℕ) → w < 2 ^ 32 → Far w → changed w ≡ 0
   -- three flips of a codeword are always refused: a word three bits away from one is at most two bits away from none
   pub three-far : (w c : ℕ) → w < 2 ^ 32 → Obeying c → distance w c ≡ 3 → Far w

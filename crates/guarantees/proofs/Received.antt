@@ -10,6 +10,7 @@ use lib.ListN.{length, getD, drop, length-drop, List·getD-eq-default}
 use lib.Seq.{getD-drop}
 use borrow.Author.Tests.{ltb-true, ltb-false}
 use Rattle.base.proofs.SearchLaws.{le-or-lt, sum-cong}
+use Rattle.codeword.specs.Answer.{changed}
 use Rattle.codeword.specs.Code.{sync}
 use Rattle.codeword.specs.Nearest.{distance, nearest}
 use Rattle.codeword.proofs.NearestLaws.{sync-near, distance-self}
@@ -20,11 +21,11 @@ use Rattle.transmission.specs.Transmitted.{slotIndex}
 use Rattle.transmission.proofs.Sendings.{sendings-placed}
 use Rattle.transmission.proofs.TransmissionLaws.{word-in, slot-word, transmission-length, transmission-at, transmission-fits}
 use Rattle.reader.specs.Meaning.{meaning}
-use Rattle.reader.specs.Changed.{changed, unlessLost, slotChanged}
+use Rattle.reader.specs.Changed.{unlessLost, slotChanged}
 use Rattle.reader.specs.Reading.{slotWord, syncWord, changesIn}
 use Rattle.reader.specs.Answers.{unsynced}
 use Rattle.guarantees.specs.Transport.{flipCount, Received, lostAt, flipsBut}
-use Rattle.guarantees.proofs.Words.{says, not-lost, corrected, refused}
+use Rattle.guarantees.proofs.Words.{says, sent-counts, corrected, refused}
 use Rattle.guarantees.proofs.SoFar.{saidIn}
 
 -- a word that isn't there has no flips
@@ -124,7 +125,7 @@ module _ (xs : List Sending) (most : ℕ) (words : List ℕ) (rec : Received mos
           go : (b : Bool) → lostAt (transmissionOf xs) words s ≡ b
               → unlessLost (meaning (nearest w)) (changed w) ≡ cond b 0 (flipCount (transmissionOf xs) words (slotIndex s))
           go true e = rw (gone m e)
-          go false e = rw (kept e, says a s c (sendings-placed a .only s)) (not-lost xs c (distance w (codewordIn (codewordsOf xs) c)) ∙ word-flips)
+          go false e = rw (kept e, says a s c (sendings-placed a .only s)) (sent-counts xs c (distance w (codewordIn (codewordsOf xs) c)) ∙ word-flips)
 
   -- ---- the bits changed in all of them
 

@@ -88,8 +88,8 @@ says {xs} a s c (itsMessage i j l m q) =
     let bits : messageBits b ≡ 1048576 + b = omega (arith, h) in
     group-says (code.codeword (messageBits b)) b (codeword-front (messageBits b) (omega arith) ∙ bits) h
 
--- it is not lost
-pub not-lost : (xs : List Sending) (c : Content) (n : ℕ) → unlessLost (meaningIn xs c) n ≡ n
-not-lost xs idle n = refl
-not-lost xs (address i) n = refl
-not-lost xs (message i j) n = refl
+-- the bits changed in it count
+pub sent-counts : (xs : List Sending) (c : Content) (n : ℕ) → unlessLost (meaningIn xs c) n ≡ n
+sent-counts xs idle n = refl
+sent-counts xs (address i) n = refl
+sent-counts xs (message i j) n = refl

@@ -1,22 +1,19 @@
 -- Laws of the bits changed in a slot's word. Assumes nothing.
 use mathlib.Core.Path.{_≡_, refl, sym, ap, ap₂, _∙_}
 use mathlib.Core.Bool.{Bool, true, false, cond}
-use mathlib.Core.Option.{Option, none, some}
 use Prim.Native.Nat.{ℕ, _*_, _/_, _%_, _^_, _≤_, _<_}
 use native.Mathlib.Omega.{arith}
-use lib.Bits.{bitXor}
 use lib.Dec.{eqb, ltb}
 use borrow.Author.Tests.{lt-ltb}
 use Rattle.base.proofs.Bools.{true-false}
-use Rattle.codeword.specs.Answer.{answer, changedOf}
+use Rattle.codeword.specs.Answer.{answer, changedOf, changed}
 use Rattle.codeword.specs.Code.{idle}
-use Rattle.codeword.specs.Nearest.{distance, nearest}
+use Rattle.codeword.specs.Nearest.{nearest}
 use Rattle.codeword.specs.declared.Codeword.{Codeword}
 use Rattle.codeword.specs.declared.Correction.the-variants.{Corrected, Refused}
-use Rattle.codeword.proofs.AnswerLaws.{answer-corrected, answer-refused}
-use Rattle.codeword.proofs.CodeLaws.{weight-few}
+use Rattle.codeword.proofs.AnswerLaws.{answer-corrected, answer-refused, answer-few}
 use Rattle.reader.specs.Meaning.{codewordMeaning, meaning}
-use Rattle.reader.specs.Changed.{changed, unlessLost, slotChanged}
+use Rattle.reader.specs.Changed.{unlessLost, slotChanged}
 use Rattle.reader.specs.Symbols.{said}
 use Rattle.reader.specs.declared.Meaning.{Meaning}
 use Rattle.reader.specs.declared.Meaning.the-variants.{Lost, Idle, Address, Message}
@@ -29,14 +26,9 @@ kept-few Idle n h = h
 kept-few (Address u f) n h = h
 kept-few (Message b) n h = h
 
-changed-few : (w : ℕ) (o : Option ℕ) → changedOf (answer w o) ≤ 32
-unfolding distance
-changed-few w none = omega arith
-changed-few w (some c) = weight-few (bitXor w c)
-
 pub slot-few : (w : ℕ) → slotChanged w ≤ 32
 unfolding slotChanged
-slot-few w = kept-few (meaning (nearest w)) (changed w) (changed-few w (nearest w))
+slot-few w = kept-few (meaning (nearest w)) (changed w) (answer-few w (nearest w))
 
 -- what counts, by the symbol
 module _ (x n : ℕ) where

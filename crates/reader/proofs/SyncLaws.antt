@@ -13,13 +13,13 @@ use borrow.Author.Tests.{le-leb, lt-leb, eqb-true, ne-eqb}
 use Rattle.base.specs.Search.{sum}
 use Rattle.base.proofs.Bools.{true-false}
 use Rattle.base.proofs.SearchLaws.{least-is, le-or-lt, sum-cong}
-use Rattle.codeword.specs.Answer.{answer, changedOf}
+use Rattle.codeword.specs.Answer.{answer, changedOf, changed}
 use Rattle.codeword.specs.Code.{sync}
 use Rattle.codeword.specs.Nearest.{distance, nearest}
 use Rattle.codeword.proofs.CodeLaws.{weight-few}
 use Rattle.codeword.proofs.NearestLaws.{nearest-near, sync-near}
 use Rattle.reader.specs.Meaning.{isSync}
-use Rattle.reader.specs.Changed.{changed, syncsChanged}
+use Rattle.reader.specs.Changed.{syncsChanged}
 use Rattle.reader.specs.Reading.{syncWord}
 use Rattle.reader.specs.Answers.{unsynced, firstUnsynced}
 

@@ -1,17 +1,13 @@
--- How many bits are changed in the words that are read (R-2).
+-- How many of the changed bits count in the slots, and the sums over slots and sync words (R-2).
 use Prim.Native.Nat.{ℕ}
 use Rattle.base.specs.Search.{sum}
-use Rattle.codeword.specs.Answer.{answer, changedOf}
+use Rattle.codeword.specs.Answer.{changed}
 use Rattle.codeword.specs.Nearest.{nearest}
 use Rattle.reader.specs.Meaning.{meaning}
 use Rattle.reader.specs.declared.Meaning.{Meaning}
 use Rattle.reader.specs.declared.Meaning.the-variants.{Lost, Idle, Address, Message}
 
--- how many bits reading changes in a word; zero where it is refused
-abbrev pub changed : ℕ → ℕ
-changed w = changedOf (answer w (nearest w))
-
--- how many of them count, by what the word says: none where it is lost, whatever was mended in it
+-- how many of a word's changed bits count, by what it says: none where it is lost, whatever was mended in it
 abbrev pub unlessLost : Meaning → ℕ → ℕ
 unlessLost Lost n = 0
 unlessLost Idle n = n
