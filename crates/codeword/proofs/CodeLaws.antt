@@ -1,12 +1,14 @@
 -- Laws of codewords: each obeys the code, and a word obeys it exactly where its syndrome is 0.
 -- Assumes nothing.
 use mathlib.Core.Path.{_≡_, refl, sym, ap, _∙_, subst}
+use mathlib.Core.Bool.{Bool, true, false}
 use Prim.Native.Nat.{ℕ, zero, suc, _+_, _*_, _/_, _%_, _^_, _≤_, _<_}
 use native.Mathlib.Nat.{pow-suc}
 use native.Mathlib.Omega.{arith}
 use lib.Bits.{bitXor, xor-self, xor-shifted}
 use lib.Count.{onesIn, ones, ones-step}
 use lib.Dec.{T, eqb, eqb→eq, eqb-refl, lit<}
+use borrow.Author.Tests.{eq-eqb, ne-eqb}
 use Rattle.codeword.specs.Code.{reduce, remainder, weight, withParity, codeword, obeys, sync, idle}
 use Rattle.codeword.specs.CorrectionTheorem.{Obeying}
 use Rattle.codeword.proofs.Linear.{remainder-lt, remainder-xor, remainder-small}
@@ -132,6 +134,23 @@ module _ (w : ℕ) (h : w < 2 ^ 32) where
       let same : codeword (w / 2048) ≡ w =
       ap (λ (x : ℕ). x * 2 + weight x % 2) front ∙ omega (arith, weight-last w h) in
       subst (λ (x : ℕ). T (eqb w x)) (sym same) (eqb-refl w)
+
+  obeys-is : obeys w ≡ eqb (syndrome w) 0
+  obeys-is = by (obeys w) refl
+    where
+      by : (b : Bool) → obeys w ≡ b → b ≡ eqb (syndrome w) 0
+      by true e = sym (eq-eqb (syndrome w) 0 (obeys-syndrome (subst T (sym e) tt)))
+      by false e = sym (ne-eqb (syndrome w) 0 (λ z. subst T e (syndrome-obeys z)))
+
+-- in terms of what is left of the first 31 bits after the division, and of the parity
+module _ (w r : ℕ) (h : w < 2 ^ 32) (q : r ≡ remainder 31 (w / 2)) where
+  pub obeys-not : (r ≡ 0 → ⊥) → false ≡ obeys w
+  unfolding syndrome
+  obeys-not n = sym (obeys-is w h ∙ ne-eqb (syndrome w) 0 (λ z. n (omega arith)))
+
+  pub obeys-even : (p : ℕ) → r ≡ 0 → p ≡ weight w % 2 → eqb p 0 ≡ obeys w
+  unfolding syndrome
+  obeys-even p z e = let same : p ≡ syndrome w = omega arith in ap (λ (x : ℕ). eqb x 0) same ∙ sym (obeys-is w h)
 
 -- the codeword of any 21 bits, sync and idle obey the code
 pub codeword-obeying : (m : ℕ) → m < 2 ^ 21 → Obeying (codeword m)

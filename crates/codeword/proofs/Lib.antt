@@ -7,6 +7,7 @@ pub mod Unique
 pub mod ThreeFlips
 pub mod NearestLaws
 pub mod AnswerLaws
+pub mod TriedLaws
 pub mod Maps
 pub mod Decode
 pub mod CheckLaws

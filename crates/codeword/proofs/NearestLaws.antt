@@ -20,7 +20,7 @@ use Rattle.codeword.proofs.Unique.{in-errors, unique}
 use Rattle.codeword.proofs.XorLaws.{xor-cancel}
 
 -- what the search among the words with one of the errors es gives
-abbrev Outcome : ℕ → List ℕ → Option ℕ → Type 0
+abbrev pub Outcome : ℕ → List ℕ → Option ℕ → Type 0
 Outcome w es none = (e : ℕ) → List·Memᴰ e es → T (obeys (bitXor w e)) → ⊥
 Outcome w es (some c) = (e : ℕ) × List·Memᴰ e es × T (obeys c) × (c ≡ bitXor w e)
 
@@ -34,7 +34,7 @@ one : (w x : ℕ) (es : List ℕ) (b : Bool) → obeys (bitXor w x) ≡ b → (o
 one w x es true q o out = (x, List·Memᴰ·head refl, subst T (sym q) tt, refl)
 one w x es false q o out = later w x es (λ t. subst T q t) o out
 
-searched : (w : ℕ) (es : List ℕ) → Outcome w es (firstCodeword (map (bitXor w) es))
+pub searched : (w : ℕ) (es : List ℕ) → Outcome w es (firstCodeword (map (bitXor w) es))
 unfolding firstCodeword
 searched w [] = λ e m t. List·Memᴰ·not-nil m
 searched w (x ∷ es) = one w x es (obeys (bitXor w x)) refl (firstCodeword (map (bitXor w) es)) (searched w es)

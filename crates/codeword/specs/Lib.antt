@@ -3,3 +3,4 @@ pub mod Code
 pub mod CorrectionTheorem
 pub mod Nearest
 pub mod Places
+pub mod Tried

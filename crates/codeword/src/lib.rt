@@ -6,6 +6,14 @@ ghost use Rattle.codeword.specs.Answer.{answer};
 ghost use Rattle.codeword.specs.Code.{remainder, weight, codeword, sync, idle, addressBits, messageBits};
 ghost use Rattle.codeword.specs.Nearest.{distance, nearest};
 ghost use Rattle.codeword.specs.Places.{checks, wrongBits};
+pub use engines::Both;
+pub use engines::Engine;
+pub use engines::correct_by;
+pub use engines::engines_agree;
+pub use slow::correct_slowly;
+
+mod engines;
+mod slow;
 
 // A word of 32 bits that obeys the code: bit 1, sent first, is the top bit.
 pub struct Codeword(u32);
