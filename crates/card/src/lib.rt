@@ -13,6 +13,7 @@ ghost use Rattle.sender.specs.Start.{startedOf};
 ghost use Rattle.sender.specs.Step.{stateFrom, stepOf};
 ghost use Rattle.card.specs.Answers.{wordFor, reportFor, bytesFor, readingFor, refusalFor, stateFor, stepFor};
 use codeword::Correction;
+use codeword::Engine;
 use job::JobAnswer;
 use job_listing::Listed;
 use reader::Changes;
@@ -84,11 +85,10 @@ struct Begun {
 }
 
 // The codeword at most two bits away from a word, and how many bits are changed; or the word itself and number 20.
-#[no_mangle]
-pub extern "C" fn card_correct(word: u32) -> CardWord
+fn corrected(engine: Engine, word: u32) -> CardWord
     ensures { λ r. ⌜ r ≡ wordFor word (answer word (nearest word)) ⌝ }
 {
-    let Correction::Corrected(c, changed) = codeword::correct(word) else {
+    let Correction::Corrected(c, changed) = codeword::correct_by(engine, word) else {
         return CardWord {
             word: word,
             number: 20,
@@ -100,6 +100,22 @@ pub extern "C" fn card_correct(word: u32) -> CardWord
         number: 0,
         changed: changed,
     }
+}
+
+// A word corrected by the fast engine.
+#[no_mangle]
+pub extern "C" fn card_correct(word: u32) -> CardWord
+    ensures { λ r. ⌜ r ≡ wordFor word (answer word (nearest word)) ⌝ }
+{
+    corrected(Engine::Fast, word)
+}
+
+// A word corrected by the slow engine.
+#[no_mangle]
+pub extern "C" fn card_correct_slowly(word: u32) -> CardWord
+    ensures { λ r. ⌜ r ≡ wordFor word (answer word (nearest word)) ⌝ }
+{
+    corrected(Engine::Slow, word)
 }
 
 // A report as numbers.
@@ -211,23 +227,57 @@ fn reading_numbers(r: Reading) -> CardReading
 }
 
 // Writes the page lines of words, batches only, over the front of lent bytes.
+fn read_words(engine: Engine, words: &[u32], out: &mut [u8]) -> CardReading
+    ensures { λ r. ⌜ r ≡ readingFor (readWords (now (words .entry)) (length (now (out .entry)))) ⌝ }
+    ensures { λ _. ⌜ now (out .exit) ≡ over (now (out .entry)) (linesRead (readWords (now (words .entry)) (length (now (out .entry)))) (now (words .entry))) ⌝ }
+{
+    let reading = reader::read_words(engine, words, out);
+    reading_numbers(reading)
+}
+
+// Words read with the fast engine.
 #[no_mangle]
 pub extern "C" fn card_read_words(words: &[u32], out: &mut [u8]) -> CardReading
     ensures { λ r. ⌜ r ≡ readingFor (readWords (now (words .entry)) (length (now (out .entry)))) ⌝ }
     ensures { λ _. ⌜ now (out .exit) ≡ over (now (out .entry)) (linesRead (readWords (now (words .entry)) (length (now (out .entry)))) (now (words .entry))) ⌝ }
 {
-    let reading = reader::read_words(words, out);
-    reading_numbers(reading)
+    read_words(Engine::Fast, words, out)
+}
+
+// Words read with the slow engine.
+#[no_mangle]
+pub extern "C" fn card_read_words_slowly(words: &[u32], out: &mut [u8]) -> CardReading
+    ensures { λ r. ⌜ r ≡ readingFor (readWords (now (words .entry)) (length (now (out .entry)))) ⌝ }
+    ensures { λ _. ⌜ now (out .exit) ≡ over (now (out .entry)) (linesRead (readWords (now (words .entry)) (length (now (out .entry)))) (now (words .entry))) ⌝ }
+{
+    read_words(Engine::Slow, words, out)
 }
 
 // Writes the page lines of a listing over the front of lent bytes.
+fn read_listing(engine: Engine, listing: &[u8], out: &mut [u8]) -> CardReading
+    ensures { λ r. ⌜ r ≡ readingFor (readListing (now (listing .entry)) (length (now (out .entry)))) ⌝ }
+    ensures { λ _. ⌜ now (out .exit) ≡ over (now (out .entry)) (linesRead (readListing (now (listing .entry)) (length (now (out .entry)))) (wordsOf (now (listing .entry)))) ⌝ }
+{
+    let reading = reader::read_listing(engine, listing, out);
+    reading_numbers(reading)
+}
+
+// A listing read with the fast engine.
 #[no_mangle]
 pub extern "C" fn card_read_listing(listing: &[u8], out: &mut [u8]) -> CardReading
     ensures { λ r. ⌜ r ≡ readingFor (readListing (now (listing .entry)) (length (now (out .entry)))) ⌝ }
     ensures { λ _. ⌜ now (out .exit) ≡ over (now (out .entry)) (linesRead (readListing (now (listing .entry)) (length (now (out .entry)))) (wordsOf (now (listing .entry)))) ⌝ }
 {
-    let reading = reader::read_listing(listing, out);
-    reading_numbers(reading)
+    read_listing(Engine::Fast, listing, out)
+}
+
+// A listing read with the slow engine.
+#[no_mangle]
+pub extern "C" fn card_read_listing_slowly(listing: &[u8], out: &mut [u8]) -> CardReading
+    ensures { λ r. ⌜ r ≡ readingFor (readListing (now (listing .entry)) (length (now (out .entry)))) ⌝ }
+    ensures { λ _. ⌜ now (out .exit) ≡ over (now (out .entry)) (linesRead (readListing (now (listing .entry)) (length (now (out .entry)))) (wordsOf (now (listing .entry)))) ⌝ }
+{
+    read_listing(Engine::Slow, listing, out)
 }
 
 // A job started over a state of this cursor, these pages and these flags, whose message words are lent: a declined job leaves all

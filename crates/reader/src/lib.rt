@@ -14,6 +14,7 @@ ghost use Rattle.reader.specs.Symbols.{said, Tells, stateBy, heardBy, pa
 ghost use Rattle.reader.specs.Progress.{Buffers, Messages, Idles, Quiet, withMessages, Kept, KeptAll, closed};
 use codeword::Codeword;
 use codeword::Correction;
+use codeword::Engine;
 use job::Printing;
 use text::Coding;
 
@@ -111,12 +112,12 @@ fn unless_lost(symbol: u32, changed: u32) -> u32
     0
 }
 
-// A received word, corrected.
-fn read_word(word: u32) -> ReadWord
+// A received word, corrected by the engine.
+fn read_word(engine: Engine, word: u32) -> ReadWord
     ensures { λ r. ⌜ said (r .symbol) ≡ meaning (nearest word) ⌝ }
     ensures { λ r. ⌜ r .changed ≡ slotChanged word ⌝ }
 {
-    let Correction::Corrected(c, changed) = codeword::correct(word) else {
+    let Correction::Corrected(c, changed) = codeword::correct_by(engine, word) else {
         return ReadWord {
             symbol: LOST,
             changed: 0,
@@ -168,7 +169,7 @@ fn syncs_changed(words: &[u32]) -> u32
 }
 
 // The symbols of the slots of whole batches, 300 at most. Answers how many bits are changed.
-fn read_slots(words: &[u32], symbols: &mut [u32]) -> u32
+fn read_slots(engine: Engine, words: &[u32], symbols: &mut [u32]) -> u32
     requires { ⌜ length (now symbols) ≤ 16 * (length (now words) / 17) ⌝ }
     requires { ⌜ length (now symbols) ≤ 4800 ⌝ }
     ensures { λ _. ⌜ Tells (now (words .entry)) (length (now (symbols .entry))) (now (symbols .exit)) ⌝ }
@@ -177,7 +178,7 @@ fn read_slots(words: &[u32], symbols: &mut [u32]) -> u32
     let mut changed = 0;
     let mut s = 0;
     while s < symbols.len() {
-        let r = read_word(words[17 * (s / 16) + 1 + s % 16]);
+        let r = read_word(engine, words[17 * (s / 16) + 1 + s % 16]);
         symbols[s] = r.symbol;
         changed += r.changed;
         s += 1;
@@ -485,7 +486,7 @@ fn blank_symbols() -> [u32; 4800] {
 }
 
 // Reads whole batches, 300 at most.
-fn read_batches(words: &[u32], out: &mut [u8]) -> Reading
+fn read_batches(engine: Engine, words: &[u32], out: &mut [u8]) -> Reading
     requires { ⌜ length (now words) ≤ 5100 ⌝ }
     ensures { λ r. ⌜ r ≡ readBatches (now (words .entry)) (length (now (out .entry))) ⌝ }
     ensures { λ r. ⌜ now (out .exit) ≡ over (now (out .entry)) (linesRead r (now (words .entry))) ⌝ }
@@ -499,14 +500,15 @@ fn read_batches(words: &[u32], out: &mut [u8]) -> Reading
     let mut symbols = blank_symbols();
     let slots = 16 * batches;
     let changed = Changes {
-        slots: read_slots(words, &mut symbols[..slots]),
+        slots: read_slots(engine, words, &mut symbols[..slots]),
         syncs: syncs_changed(words),
     };
     read_symbols(&symbols[..slots], changed, out)
 }
 
-// Reads a slice of words, batches only: the lines of the pages go to the front of the bytes, and what stands behind them keeps its value.
-pub fn read_words(words: &[u32], out: &mut [u8]) -> Reading
+// Reads a slice of words, batches only, with either engine: the lines of the pages go to the front of the bytes, and what stands behind
+// them keeps its value.
+pub fn read_words(engine: Engine, words: &[u32], out: &mut [u8]) -> Reading
     ensures { λ r. ⌜ r ≡ readWords (now (words .entry)) (length (now (out .entry))) ⌝ }
     ensures { λ r. ⌜ now (out .exit) ≡ over (now (out .entry)) (linesRead r (now (words .entry))) ⌝ }
 {
@@ -520,7 +522,7 @@ pub fn read_words(words: &[u32], out: &mut [u8]) -> Reading
     if 300 < n / 17 {
         return Reading::Declined(Fault::TooMany(0));
     }
-    read_batches(words, out)
+    read_batches(engine, words, out)
 }
 
 // Room for the words of 300 batches.
@@ -540,7 +542,7 @@ fn fault_of(why: listing::Fault) -> Fault
 }
 
 // Reads a listing as `read_words` reads its words.
-pub fn read_listing(listing: &[u8], out: &mut [u8]) -> Reading
+pub fn read_listing(engine: Engine, listing: &[u8], out: &mut [u8]) -> Reading
     ensures { λ r. ⌜ r ≡ readListing (now (listing .entry)) (length (now (out .entry))) ⌝ }
     ensures { λ r. ⌜ now (out .exit) ≡ over (now (out .entry)) (linesRead r (wordsOf (now (listing .entry)))) ⌝ }
 {
@@ -552,7 +554,7 @@ pub fn read_listing(listing: &[u8], out: &mut [u8]) -> Reading
             batches,
         } => {
             let n = 17 * batches;
-            read_batches(&words[..n], out)
+            read_batches(engine, &words[..n], out)
         }
         listing::Listing::Declined(why) => Reading::Declined(fault_of(why)),
     }

@@ -2,6 +2,7 @@
 // letter that says what is asked, a space, and the question. The program prints the line and, behind it, what the library answers.
 use codeword::Codeword;
 use codeword::Correction;
+use codeword::Engine;
 use job::JobAnswer;
 use libc::STDIN_FILENO;
 use libc::STDOUT_FILENO;
@@ -63,9 +64,9 @@ fn print_correction(answer: Correction) {
     print_number(changed as u64);
 }
 
-// `W 00000003`: what a received word reads as, and how many bits are changed.
-fn word(line: &[u8]) {
-    print_correction(codeword::correct(number_in(line, 2, 10)));
+// `W 00000003`: what a received word reads as, and how many bits are changed. `w` asks the slow engine.
+fn word(engine: Engine, line: &[u8]) {
+    print_correction(codeword::correct_by(engine, number_in(line, 2, 10)));
 }
 
 // Numeric for the digit 4, otherwise alphanumeric.
@@ -306,31 +307,31 @@ fn words_in(line: &[u8], words: &mut [u32]) {
     }
 }
 
-// `R 7CD215D8 000026EC C2199DEA`: what a batch of these words, idle behind them, reads as.
-fn read(line: &[u8]) {
+// `R 7CD215D8 000026EC C2199DEA`: what a batch of these words, idle behind them, reads as. `r` asks the slow engine.
+fn read(engine: Engine, line: &[u8]) {
     let mut words = [0u32; 17];
     words_in(line, &mut words);
     let mut out = io::buffer();
-    let answer = reader::read_words(&words, &mut out);
+    let answer = reader::read_words(engine, &words, &mut out);
     print_reading(answer, &out);
 }
 
-// `L AAAAAAAA AAAAAAAA|..`: what a listing reads as.
-fn list(line: &[u8]) {
+// `L AAAAAAAA AAAAAAAA|..`: what a listing reads as. `l` asks the slow engine.
+fn list(engine: Engine, line: &[u8]) {
     if line.len() < 2 {
         return;
     }
     let mut bytes = io::buffer();
     let n = newlines(&line[2..], &mut bytes);
-    read_front(&bytes, n);
+    read_front(engine, &bytes, n);
 }
 
-fn read_front(bytes: &[u8], n: usize) {
+fn read_front(engine: Engine, bytes: &[u8], n: usize) {
     if bytes.len() < n {
         return;
     }
     let mut out = io::buffer();
-    let answer = reader::read_listing(&bytes[..n], &mut out);
+    let answer = reader::read_listing(engine, &bytes[..n], &mut out);
     print_reading(answer, &out);
 }
 
@@ -345,13 +346,16 @@ fn run(line: &[u8]) {
     match asked {
         b'A' => address(line),
         b'M' => message(line),
-        b'W' => word(line),
+        b'W' => word(Engine::Fast, line),
+        b'w' => word(Engine::Slow, line),
         b'T' => groups(line),
         b'H' => heard(line),
         b'J' => job(line),
         b'S' => send(line),
-        b'R' => read(line),
-        b'L' => list(line),
+        b'R' => read(Engine::Fast, line),
+        b'r' => read(Engine::Slow, line),
+        b'L' => list(Engine::Fast, line),
+        b'l' => list(Engine::Slow, line),
         _ => {}
     }
     print(b"\n");

@@ -37,7 +37,7 @@ abbrev read : tie.After-read-slots → tie.Start
 read c = blank (c .before .before)
 
 abbrev symbols : tie.After-read-slots → List ℕ
-symbols c = c .read-slots .last .1 .0
+symbols c = c .read-slots .last .1 .1 .0
 
 tells : (c : tie.After-read-slots) → Tells (now (read c .args .words)) (slots (read c)) (symbols c)
 tells c = subst (λ (n : ℕ). Tells (now (read c .args .words)) n (symbols c)) (part-length (c .before .before)) (c .read-slots .ensures .0)

@@ -18,14 +18,14 @@ use Rattle.reader.proofs.read_slots.Statement.{statement}
 use Rattle.reader.proofs.read_slots.Tie as tie
 
 abbrev Inv-loop : tie.InvT-loop
-Inv-loop words symbols₀ changed₀ s₀ symbols changed s =
+Inv-loop engine words symbols₀ changed₀ s₀ symbols changed s =
     (s ≤ length symbols₀)
     × (length symbols ≡ length symbols₀)
     × ((k : ℕ) → k < s → said (getD symbols k 0) ≡ meaning (nearest (slotWord words k)))
     × (changed ≡ slotsChanged (slotWord words) s)
 
 abbrev μ-loop : tie.MeasureT-loop
-μ-loop words symbols₀ changed₀ s₀ symbols changed s = length symbols₀ - s
+μ-loop engine words symbols₀ changed₀ s₀ symbols changed s = length symbols₀ - s
 
 loop-holds : tie.Need-loop-holds Inv-loop μ-loop
 loop-holds c = (omega arith, refl, below-none _, sum-none _)

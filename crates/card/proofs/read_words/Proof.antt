@@ -1,12 +1,12 @@
--- `card::card_read_words` meets its contract. Assumes nothing.
+-- `card::read_words` meets its contract. Assumes nothing.
 use mathlib.Core.Path.{_∙_, ap}
 use Rattle.base.specs.Lists.{over}
 use Rattle.reader.specs.Answers.{linesRead}
 use Rattle.reader.specs.declared.Reading.{Reading}
 use Rattle.card.specs.Answers.{readingFor}
 use borrow.Author.Needs.{needs}
-use Rattle.card.proofs.card_read_words.Statement.{statement}
-use Rattle.card.proofs.card_read_words.Tie as tie
+use Rattle.card.proofs.read_words.Statement.{statement}
+use Rattle.card.proofs.read_words.Tie as tie
 
 read-words-requires : tie.Need-read-words-requires
 read-words-requires c κs = search needs
@@ -26,5 +26,5 @@ returns c =
       done .1 ∙ ap (λ (r : Reading). over (a .out .now) (linesRead r (a .words .now))) (done .0),
     )
 
-pub card-read-words-spec : {M : Type 1} → statement M
-card-read-words-spec = tie.close (tie.spec read-words-requires reading-numbers-requires same-length returns)
+pub read-words-spec : {M : Type 1} → statement M
+read-words-spec = tie.close (tie.spec read-words-requires reading-numbers-requires same-length returns)

@@ -1,4 +1,4 @@
--- `card::card_correct` meets its contract. Assumes nothing.
+-- `card::corrected` meets its contract. Assumes nothing.
 use mathlib.Core.Path.{_≡_, sym, ap, _∙_}
 use Prim.Native.Nat.{ℕ}
 use Rattle.codeword.specs.declared.Codeword.{Codeword}
@@ -7,16 +7,16 @@ use Rattle.codeword.specs.declared.Correction.the-variants.{Corrected}
 use Rattle.card.specs.declared.CardWord.{CardWord}
 use Rattle.card.specs.Answers.{wordFor}
 use borrow.Author.Needs.{needs}
-use Rattle.card.proofs.card_correct.Statement.{statement}
-use Rattle.card.proofs.card_correct.Tie as tie
+use Rattle.card.proofs.corrected.Statement.{statement}
+use Rattle.card.proofs.corrected.Tie as tie
 
 -- the answer with the codeword as a number
 made : (w : ℕ) {c : Codeword} {a : Correction} {x n : ℕ} → x ≡ c .0 → Corrected c n ≡ a
     → _≡_ {A = CardWord} (record { word = x; number = 0; changed = n }) (wordFor w a)
 made w {c} {a} {x} {n} e f = (λ i. record { word = e i; number = 0; changed = n }) ∙ ap (wordFor w) f
 
-correct-requires : tie.Need-correct-requires
-correct-requires c κs = search needs
+correct-by-requires : tie.Need-correct-by-requires
+correct-by-requires c κs = search needs
 
 enum-known-c : tie.Need-enum-known-c
 enum-known-c c = search needs
@@ -25,7 +25,7 @@ enum-told : tie.Need-enum-told
 enum-told c = search needs
 
 returns : tie.Need-returns
-returns c = ap (wordFor (c .before .before .before .args .word)) (sym (c .enum-told .given .1) ∙ c .before .before .correct .ensures)
+returns c = ap (wordFor (c .before .before .before .args .word)) (sym (c .enum-told .given .1) ∙ c .before .before .correct-by .ensures)
 
 word-requires : tie.Need-word-requires
 word-requires c κs = search needs
@@ -33,8 +33,8 @@ word-requires c κs = search needs
 returns-2 : tie.Need-returns-2
 returns-2 c =
     let m = c .before .before .before .before in
-    made (m .before .args .word) (c .word .ensures) (sym (c .before .before .c .given .1) ∙ m .correct .ensures)
+    made (m .before .args .word) (c .word .ensures) (sym (c .before .before .c .given .1) ∙ m .correct-by .ensures)
 
-pub card-correct-spec : {M : Type 1} → statement M
-card-correct-spec =
-    tie.close (tie.spec correct-requires enum-known-c enum-told returns word-requires returns-2)
+pub corrected-spec : {M : Type 1} → statement M
+corrected-spec =
+    tie.close (tie.spec correct-by-requires enum-known-c enum-told returns word-requires returns-2)

@@ -1,4 +1,4 @@
--- `card::card_read_listing` meets its contract. Assumes nothing.
+-- `card::read_listing` meets its contract. Assumes nothing.
 use mathlib.Core.Path.{_∙_, ap}
 use Rattle.base.specs.Lists.{over}
 use Rattle.listing.specs.Words.{wordsOf}
@@ -6,8 +6,8 @@ use Rattle.reader.specs.Answers.{linesRead}
 use Rattle.reader.specs.declared.Reading.{Reading}
 use Rattle.card.specs.Answers.{readingFor}
 use borrow.Author.Needs.{needs}
-use Rattle.card.proofs.card_read_listing.Statement.{statement}
-use Rattle.card.proofs.card_read_listing.Tie as tie
+use Rattle.card.proofs.read_listing.Statement.{statement}
+use Rattle.card.proofs.read_listing.Tie as tie
 
 read-listing-requires : tie.Need-read-listing-requires
 read-listing-requires c κs = search needs
@@ -27,5 +27,5 @@ returns c =
       done .1 ∙ ap (λ (r : Reading). over (a .out .now) (linesRead r (wordsOf (a .listing .now)))) (done .0),
     )
 
-pub card-read-listing-spec : {M : Type 1} → statement M
-card-read-listing-spec = tie.close (tie.spec read-listing-requires reading-numbers-requires same-length returns)
+pub read-listing-spec : {M : Type 1} → statement M
+read-listing-spec = tie.close (tie.spec read-listing-requires reading-numbers-requires same-length returns)
