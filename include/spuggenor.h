@@ -41,6 +41,11 @@ struct card_word {
 /* Corrects a word, all 32 bits counted. */
 struct card_word card_correct(uint32_t word);
 
+/* The same answer for every word, by the slow engine (R-14). It tests the word itself by long division, bit by bit, then every word
+ * one bit away, then every word two bits away, and stops at the first codeword. It is there for whoever wants an answer that does
+ * not rest on working the wrong bits out of the remainder. It takes much longer, longest for a word that is refused. */
+struct card_word card_correct_slowly(uint32_t word);
+
 /* ---- a job as a whole. A job is its page lines, up to CARD_PAGES of them. */
 
 struct card_report {
@@ -89,6 +94,11 @@ struct card_reading card_read_words(const uint32_t *words, size_t words_length, 
 
 /* The same of a listing, its preamble included. */
 struct card_reading card_read_listing(const uint8_t *listing, size_t listing_length, uint8_t *out, size_t out_length);
+
+/* The two readings on the slow engine: for every input the same answers, and the same bytes in out. They take much longer, longest
+ * where many words are lost. */
+struct card_reading card_read_words_slowly(const uint32_t *words, size_t words_length, uint8_t *out, size_t out_length);
+struct card_reading card_read_listing_slowly(const uint8_t *listing, size_t listing_length, uint8_t *out, size_t out_length);
 
 /* ---- a job word by word. The caller keeps the state, and nothing but card_step writes it until the transmission is over. It holds no
  * pointer, so it may be copied or moved as memory. A state in which another byte was written gets an answer too; that answer is

@@ -1,4 +1,4 @@
-/* A job sent whole, sent again word by word, and read back with some wrong bits.
+/* A job sent whole, sent again word by word, and read back with some wrong bits; one word corrected by both engines.
  *
  * Build and run it in the repository's folder, once `rt staticlib card` has made the archive:
  *     gcc -Wall -Wextra tests/c/example.c -Iinclude target/staticlib/libcard.a -o target/example && target/example
@@ -13,6 +13,17 @@ static struct card_sender state;
 
 /* "12" to pager 000009, "HELLO" to pager 000010, a tone with function 2 to pager 00000F */
 static const char job[] = "000009 4 3132\n000010 5 48454C4C4F\n00000F 2\n";
+
+/* corrects a word by both engines, which must agree */
+static int corrected(uint32_t word) {
+    struct card_word fast = card_correct(word), slow = card_correct_slowly(word);
+    if (slow.word != fast.word || slow.number != fast.number || slow.changed != fast.changed) {
+        printf("the engines differ on %08X\n", word);
+        return 0;
+    }
+    printf("both engines correct %08X to %08X\n", word, slow.word);
+    return 1;
+}
 
 int main(void) {
     const uint8_t *text = (const uint8_t *)job;
@@ -54,6 +65,8 @@ int main(void) {
     /* one wrong bit in the first sync, two in the first slot */
     words[CARD_PREAMBLE_WORDS] ^= 0x00000001;
     words[CARD_PREAMBLE_WORDS + 1] ^= 0x80000010;
+    if (!corrected(words[CARD_PREAMBLE_WORDS + 1]))
+        return 1;
     struct card_reading read = card_read_words(words + CARD_PREAMBLE_WORDS, sent.words - CARD_PREAMBLE_WORDS, lines, CARD_LINES_BYTES);
     if (read.number != 0) {
         printf("refused %u place %zu\n", read.number, read.place);

@@ -79,15 +79,26 @@ static void pause_slot(void) {
     }
 }
 
+/* the calls that correct words, by the fast engine and by the slow one */
+struct engine {
+    struct card_word (*correct)(uint32_t);
+    struct card_reading (*read_words)(const uint32_t *, size_t, uint8_t *, size_t);
+    struct card_reading (*read_listing)(const uint8_t *, size_t, uint8_t *, size_t);
+};
+static const struct engine engines[] = {
+    {card_correct, card_read_words, card_read_listing},
+    {card_correct_slowly, card_read_words_slowly, card_read_listing_slowly},
+};
+
 /* every field of the other answers */
-static void single_words(void) {
-    struct card_word w = card_correct(0x00000003);
+static void single_words(const struct engine *by) {
+    struct card_word w = by->correct(0x00000003);
     EXPECT(w.word == 0 && w.number == 0 && w.changed == 2);
-    w = card_correct(0x7A89C196);
+    w = by->correct(0x7A89C196);
     EXPECT(w.word == 0x7A89C197 && w.number == 0 && w.changed == 1);
-    w = card_correct(0x7A89C197);
+    w = by->correct(0x7A89C197);
     EXPECT(w.word == 0x7A89C197 && w.number == 0 && w.changed == 0);
-    w = card_correct(0x00000007);
+    w = by->correct(0x00000007);
     EXPECT(w.word == 7 && w.number == 20 && w.changed == 0);
 }
 
@@ -104,34 +115,35 @@ static void sending(void) {
 }
 
 /* of the words and the listing that were sent */
-static void reading(void) {
-    struct card_reading d = card_read_listing(out, 315, out + 400, 14);
+static void reading(const struct engine *by) {
+    memset(out + 400, 0, 14);
+    struct card_reading d = by->read_listing(out, 315, out + 400, 14);
     EXPECT(d.place == 0 && d.number == 0 && d.bytes == 14 && d.pages == 1 && d.lost == 0 && d.orphans == 0 && memcmp(out + 400, job, 14) == 0);
     EXPECT(d.changed.slots == 0 && d.changed.syncs == 0);
-    d = card_read_listing(out, 315, out + 400, 13);
+    d = by->read_listing(out, 315, out + 400, 13);
     EXPECT(d.place == 0 && d.number == 10 && ALL_ZERO(d));
-    d = card_read_listing(out, 314, out + 400, 14);
+    d = by->read_listing(out, 314, out + 400, 14);
     EXPECT(d.place == 18 && d.number == 21 && ALL_ZERO(d));
     words[20] = 7; words[21] = 0xC2199DEA;
-    d = card_read_words(words + CARD_PREAMBLE_WORDS, 17, out, sizeof out);
+    d = by->read_words(words + CARD_PREAMBLE_WORDS, 17, out, sizeof out);
     EXPECT(d.place == 0 && d.number == 0 && d.bytes == 0 && d.pages == 0 && d.lost == 1 && d.orphans == 2);
     EXPECT(d.changed.slots == 0 && d.changed.syncs == 0);
 }
 
 /* bits changed in the sync, an idle, an orphan and an address; not in the words lost, of which one has the value of sync */
-static void changed_bits(void) {
+static void changed_bits(const struct engine *by) {
     words[18] ^= 0x00000003; words[19] ^= 0x80000000; words[22] ^= 0x00010001; words[23] = 0x7CD215D9; words[24] = 0x000026EC ^ 0x00000401;
-    struct card_reading d = card_read_words(words + CARD_PREAMBLE_WORDS, 17, out, sizeof out);
+    struct card_reading d = by->read_words(words + CARD_PREAMBLE_WORDS, 17, out, sizeof out);
     EXPECT(d.place == 0 && d.number == 0 && d.bytes == 9 && d.pages == 1 && d.lost == 2 && d.orphans == 2 && memcmp(out, "00000A 0\n", 9) == 0);
     EXPECT(d.changed.slots == 5 && d.changed.syncs == 2);
-    d = card_read_words(words + CARD_PREAMBLE_WORDS, 17, out, 8);
+    d = by->read_words(words + CARD_PREAMBLE_WORDS, 17, out, 8);
     EXPECT(d.place == 0 && d.number == 10 && ALL_ZERO(d));
-    d = card_read_words(words + CARD_PREAMBLE_WORDS, 16, out, sizeof out);
+    d = by->read_words(words + CARD_PREAMBLE_WORDS, 16, out, sizeof out);
     EXPECT(d.place == 0 && d.number == 21 && ALL_ZERO(d));
-    d = card_read_words(words, 17 * 301, out, sizeof out);
+    d = by->read_words(words, 17 * 301, out, sizeof out);
     EXPECT(d.place == 0 && d.number == 23 && ALL_ZERO(d));
     words[18] = 7;
-    d = card_read_words(words + CARD_PREAMBLE_WORDS, 17, out, sizeof out);
+    d = by->read_words(words + CARD_PREAMBLE_WORDS, 17, out, sizeof out);
     EXPECT(d.place == 1 && d.number == 22 && ALL_ZERO(d));
 }
 
@@ -139,9 +151,11 @@ int main(void) {
     start();
     limits();
     pause_slot();
-    single_words();
-    sending();
-    reading();
-    changed_bits();
+    for (int i = 0; i < 2; i++) {
+        single_words(&engines[i]);
+        sending();
+        reading(&engines[i]);
+        changed_bits(&engines[i]);
+    }
     return wrong;
 }

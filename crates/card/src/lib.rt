@@ -84,11 +84,11 @@ struct Begun {
     sent: [u8; 48],
 }
 
-// The codeword at most two bits away from a word, and how many bits are changed; or the word itself and number 20.
-fn corrected(engine: Engine, word: u32) -> CardWord
-    ensures { λ r. ⌜ r ≡ wordFor word (answer word (nearest word)) ⌝ }
+// The answer to a word as numbers: the corrected word and how many bits are changed, or the word itself and number 20.
+fn word_numbers(word: u32, a: Correction) -> CardWord
+    ensures { λ n. ⌜ n ≡ wordFor word a ⌝ }
 {
-    let Correction::Corrected(c, changed) = codeword::correct_by(engine, word) else {
+    let Correction::Corrected(c, changed) = a else {
         return CardWord {
             word: word,
             number: 20,
@@ -102,20 +102,22 @@ fn corrected(engine: Engine, word: u32) -> CardWord
     }
 }
 
-// A word corrected by the fast engine.
+// Corrects a word.
 #[no_mangle]
 pub extern "C" fn card_correct(word: u32) -> CardWord
     ensures { λ r. ⌜ r ≡ wordFor word (answer word (nearest word)) ⌝ }
 {
-    corrected(Engine::Fast, word)
+    let found = codeword::correct(word);
+    word_numbers(word, found)
 }
 
-// A word corrected by the slow engine.
+// Corrects a word with the slow engine.
 #[no_mangle]
 pub extern "C" fn card_correct_slowly(word: u32) -> CardWord
     ensures { λ r. ⌜ r ≡ wordFor word (answer word (nearest word)) ⌝ }
 {
-    corrected(Engine::Slow, word)
+    let found = codeword::correct_slowly(word);
+    word_numbers(word, found)
 }
 
 // A report as numbers.

@@ -1,10 +1,11 @@
-//! The library and the independent implementation on the same work, in one run, as a Markdown table.
+//! The library and the independent implementation on the same work, in one run, as a Markdown table; then the library's slow engine
+//! and its fast one.
 //!
 //!     bench [RUNS [MILLISECONDS]]
 //!
-//! Each row is timed RUNS times for at least MILLISECONDS each, the two in turn. The ratio is the library's time over the
-//! independent implementation's: the median of the runs, the least and the greatest. Before a row is timed, both must give the same
-//! answer. Lent buffers are made once, have the sizes that the header names, and aren't cleared before a call.
+//! Each row is timed RUNS times for at least MILLISECONDS each, the two in turn. The ratio is the first's time over the second's:
+//! the median of the runs, the least and the greatest. Before a row is timed, both must give the same answer. Lent buffers are made
+//! once, have the sizes that the header names, and aren't cleared before a call.
 
 mod clock;
 mod measure;
@@ -32,11 +33,15 @@ fn main() {
     println!(
         "greatest. Processor time of the thread, at least {milliseconds} ms a timing. Lent buffers aren't cleared before a call.\n"
     );
-    print_head();
+    print_head("Library", "Independent");
     let mut bench = Bench::new(effort);
     bench.correcting();
     bench.sending();
     bench.reading();
+    println!("\nThe library's slow engine: ratio of its time to that of the fast one, measured in the same way.\n");
+    print_head("Slow", "Fast");
+    bench.correcting_slowly();
+    bench.reading_slowly();
 }
 
 struct Bench {
@@ -45,6 +50,32 @@ struct Bench {
     words: Vec<u32>,
     slots: Vec<u32>,
     bytes: Vec<u8>,
+}
+
+/// The words of a row of single words.
+const COUNT: usize = 4096;
+
+type WrongBits = fn(&mut Random) -> u32;
+
+/// How single words are damaged.
+const DAMAGES: [(&str, WrongBits); 5] = [
+    ("no wrong bit", |_| 0),
+    ("one wrong bit", |random| random.ones(1)),
+    ("two wrong bits", |random| random.ones(2)),
+    ("none to two wrong bits", |random| {
+        let count = random.below(3) as u32;
+        random.ones(count)
+    }),
+    ("any words", |random| random.word()),
+];
+
+/// The damages of the largest job that both engines read.
+const CLEAN: (&str, Damage) = ("clean", Damage::None);
+const LIGHT: (&str, Damage) = ("with none to two wrong bits a word", Damage::Light);
+
+/// Corrects each word.
+fn each<A>(words: &[u32], correct: impl Fn(u32) -> A) {
+    words.iter().for_each(|&word| _ = black_box(correct(black_box(word))));
 }
 
 /// One call for each word, as the library is called: the codeword, and how many bits are changed.
@@ -59,32 +90,28 @@ impl Bench {
         Bench { effort, random: Random::new(1), words: vec![0; card::WORDS], slots: vec![0; card::PAGES], bytes: vec![0; longest] }
     }
 
+    fn damaged_words(&mut self, wrong_bits: WrongBits) -> Vec<u32> {
+        (0..COUNT).map(|_| words::codeword(&mut self.random) ^ wrong_bits(&mut self.random)).collect()
+    }
+
     fn correcting(&mut self) {
-        const COUNT: usize = 4096;
-        type WrongBits = fn(&mut Random) -> u32;
-        let damages: [(&str, WrongBits); 5] = [
-            ("no wrong bit", |_| 0),
-            ("one wrong bit", |random| random.ones(1)),
-            ("two wrong bits", |random| random.ones(2)),
-            ("none to two wrong bits", |random| {
-                let count = random.below(3) as u32;
-                random.ones(count)
-            }),
-            ("any words", |random| random.word()),
-        ];
-        for (name, damage) in damages {
-            let words: Vec<u32> = (0..COUNT).map(|_| words::codeword(&mut self.random) ^ damage(&mut self.random)).collect();
+        for (name, wrong_bits) in DAMAGES {
+            let words = self.damaged_words(wrong_bits);
             for &word in &words {
                 let answer = card::correct(word);
                 assert_eq!((answer.number == 0).then_some((answer.word, answer.changed)), correct_alone(word));
             }
-            row(
-                self.effort,
-                &format!("correct a word, {name}"),
-                COUNT,
-                &mut || words.iter().for_each(|&word| _ = black_box(card::correct(black_box(word)))),
-                &mut || words.iter().for_each(|&word| _ = black_box(correct_alone(black_box(word)))),
-            );
+            let name = format!("correct a word, {name}");
+            row(self.effort, &name, COUNT, &mut || each(&words, card::correct), &mut || each(&words, correct_alone));
+        }
+    }
+
+    fn correcting_slowly(&mut self) {
+        for (name, wrong_bits) in DAMAGES {
+            let words = self.damaged_words(wrong_bits);
+            assert!(words.iter().all(|&word| card::correct_slowly(word) == card::correct(word)));
+            let name = format!("correct a word, {name}");
+            row(self.effort, &name, COUNT, &mut || each(&words, card::correct_slowly), &mut || each(&words, card::correct));
         }
     }
 
@@ -168,12 +195,15 @@ impl Bench {
         );
     }
 
-    fn reading(&mut self) {
+    /// The batches of the largest job.
+    fn largest(&mut self) -> Vec<u32> {
         let maximal = jobs::maximal(&mut self.random, &[3]);
-        let batches = Accepted::new(&maximal).expect("good job").words().split_off(18);
-        for (name, damage) in
-            [("clean", Damage::None), ("with none to two wrong bits a word", Damage::Light), ("with lost words", Damage::Spots)]
-        {
+        Accepted::new(&maximal).expect("good job").words().split_off(18)
+    }
+
+    fn reading(&mut self) {
+        let batches = self.largest();
+        for (name, damage) in [CLEAN, LIGHT, ("with lost words", Damage::Spots)] {
             let mut received = batches.clone();
             words::damage(&mut self.random, &mut received, damage);
             self.read_listing_row(&format!("of the largest job, {name}"), &listings::listing(9, 0xAAAA_AAAA, &received));
@@ -187,6 +217,29 @@ impl Bench {
         }
         let idle = listings::listing(9, 0xAAAA_AAAA, &listings::idle_batches(300));
         self.read_listing_row("of 300 idle batches", &idle);
+    }
+
+    fn reading_slowly(&mut self) {
+        for (name, damage) in [CLEAN, LIGHT] {
+            let mut received = self.largest();
+            words::damage(&mut self.random, &mut received, damage);
+            self.slow_row(&format!("of the largest job, {name}"), &listings::listing(9, 0xAAAA_AAAA, &received));
+        }
+        let any = words::any_batches(&mut self.random, 300);
+        self.slow_row("of 300 batches of any words", &listings::listing(9, 0xAAAA_AAAA, &any));
+    }
+
+    fn slow_row(&mut self, name: &str, listing: &[u8]) {
+        let mut bytes = self.bytes.clone();
+        assert_eq!(card::read_listing_slowly(listing, &mut self.bytes), card::read_listing(listing, &mut bytes));
+        assert!(bytes == self.bytes);
+        row(
+            self.effort,
+            &format!("read the listing {name}"),
+            1,
+            &mut || _ = black_box(card::read_listing_slowly(black_box(listing), &mut self.bytes)),
+            &mut || _ = black_box(card::read_listing(black_box(listing), &mut bytes)),
+        );
     }
 
     fn read_listing_row(&mut self, name: &str, listing: &[u8]) {

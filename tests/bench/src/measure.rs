@@ -41,22 +41,22 @@ fn shown(nanoseconds: f64) -> String {
     }
 }
 
-pub fn print_head() {
-    println!("| Work | Library | Independent | Ratio | Least | Greatest |");
+pub fn print_head(one: &str, other: &str) {
+    println!("| Work | {one} | {other} | Ratio | Least | Greatest |");
     println!("|---|---:|---:|---:|---:|---:|");
 }
 
 /// Times both, one after the other in each run and the order changed from run to run, and prints the row. A call of either does
 /// `units` pieces of what the times are given for.
-pub fn row(effort: Effort, name: &str, units: usize, library: &mut dyn FnMut(), independent: &mut dyn FnMut()) {
-    let times = [calibrate(library, effort.at_least), calibrate(independent, effort.at_least)];
+pub fn row(effort: Effort, name: &str, units: usize, one: &mut dyn FnMut(), other: &mut dyn FnMut()) {
+    let times = [calibrate(one, effort.at_least), calibrate(other, effort.at_least)];
     let mut nanoseconds = [vec![], vec![]];
     let mut ratios = vec![];
     for run in 0..effort.runs {
         let mut taken = [0.0; 2];
         for turn in 0..2 {
             let which = (run + turn) % 2;
-            let total = if which == 0 { time(library, times[0]) } else { time(independent, times[1]) };
+            let total = if which == 0 { time(one, times[0]) } else { time(other, times[1]) };
             taken[which] = total.as_nanos() as f64 / times[which] as f64 / units as f64;
         }
         ratios.push(taken[0] / taken[1]);
@@ -64,6 +64,6 @@ pub fn row(effort: Effort, name: &str, units: usize, library: &mut dyn FnMut(), 
         nanoseconds[1].push(taken[1]);
     }
     let middle = median(&mut ratios);
-    let [library, independent] = nanoseconds.map(|mut values| shown(median(&mut values)));
-    println!("| {name} | {library} | {independent} | {middle:.2} | {:.2} | {:.2} |", ratios[0], ratios[ratios.len() - 1]);
+    let [one, other] = nanoseconds.map(|mut values| shown(median(&mut values)));
+    println!("| {name} | {one} | {other} | {middle:.2} | {:.2} | {:.2} |", ratios[0], ratios[ratios.len() - 1]);
 }

@@ -66,6 +66,7 @@ pub const LINES_BYTES: usize = 48_000;
 
 extern "C" {
     fn card_correct(word: u32) -> Word;
+    fn card_correct_slowly(word: u32) -> Word;
     fn card_send(
         job: *const u8,
         job_length: usize,
@@ -76,12 +77,19 @@ extern "C" {
     ) -> Report;
     fn card_list(job: *const u8, job_length: usize, out: *mut u8, out_length: usize) -> Bytes;
     fn card_read_words(words: *const u32, words_length: usize, out: *mut u8, out_length: usize) -> Reading;
+    fn card_read_words_slowly(words: *const u32, words_length: usize, out: *mut u8, out_length: usize) -> Reading;
     fn card_read_listing(listing: *const u8, listing_length: usize, out: *mut u8, out_length: usize) -> Reading;
+    fn card_read_listing_slowly(listing: *const u8, listing_length: usize, out: *mut u8, out_length: usize) -> Reading;
 }
 
 pub fn correct(word: u32) -> Word {
     // SAFETY: no pointers are passed.
     unsafe { card_correct(word) }
+}
+
+pub fn correct_slowly(word: u32) -> Word {
+    // SAFETY: no pointers are passed.
+    unsafe { card_correct_slowly(word) }
 }
 
 pub fn send(job: &[u8], words: &mut [u32], slots: &mut [u32]) -> Report {
@@ -99,7 +107,17 @@ pub fn read_words(words: &[u32], out: &mut [u8]) -> Reading {
     unsafe { card_read_words(words.as_ptr(), words.len(), out.as_mut_ptr(), out.len()) }
 }
 
+pub fn read_words_slowly(words: &[u32], out: &mut [u8]) -> Reading {
+    // SAFETY: as in send.
+    unsafe { card_read_words_slowly(words.as_ptr(), words.len(), out.as_mut_ptr(), out.len()) }
+}
+
 pub fn read_listing(listing: &[u8], out: &mut [u8]) -> Reading {
     // SAFETY: as in send.
     unsafe { card_read_listing(listing.as_ptr(), listing.len(), out.as_mut_ptr(), out.len()) }
+}
+
+pub fn read_listing_slowly(listing: &[u8], out: &mut [u8]) -> Reading {
+    // SAFETY: as in send.
+    unsafe { card_read_listing_slowly(listing.as_ptr(), listing.len(), out.as_mut_ptr(), out.len()) }
 }

@@ -1,6 +1,8 @@
 //! The library's C functions on top of the independent implementation, for builds without the archive. CARD_FAULT names a mistake
 //! to be made on purpose, so that one can see the comparison find it.
 
+mod slow;
+
 use crate::steps::{self, Sender, Step};
 use crate::{Bytes, Changes, Reading, Report, Word};
 use independent::codeword::Meaning;
@@ -60,6 +62,16 @@ pub const FAULTS: &[&str] = &[
     "syncs-among-the-slots",
     "syncs-31-bits",
     "sums-when-declined",
+    "slow-one-bit",
+    "slow-31-bits",
+    "slow-three-bits",
+    "slow-without-parity",
+    "slow-one-bit-is-two",
+    "slow-refused-word-last-tried",
+    "slow-words-of-100-batches",
+    "slow-words-end-without-newline",
+    "slow-listing-syncs-not-summed",
+    "slow-listing-writes-when-declined",
 ];
 
 /// The mistake that is asked for, empty where none is.

@@ -45,6 +45,13 @@ pub fn free_batches(random: &mut Random, batches: usize) -> Vec<u32> {
     words
 }
 
+/// Any words under good syncs.
+pub fn any_batches(random: &mut Random, batches: usize) -> Vec<u32> {
+    let mut words: Vec<u32> = (0..BATCH * batches).map(|_| random.word()).collect();
+    words.iter_mut().step_by(BATCH).for_each(|word| *word = SYNC);
+    words
+}
+
 /// One page over all batches, with words of any value.
 pub fn one_long_page(random: &mut Random, batches: usize) -> Vec<u32> {
     let fixed = random.once_in(2).then(|| random.pick(&[0, 0x33333, 0xF_FFFF, 0x55555]));
@@ -158,11 +165,8 @@ pub fn slice(random: &mut Random) -> Vec<u32> {
             words
         }
         3 => {
-            // random words under good syncs
             let count = random.between(1, 4);
-            let mut words: Vec<u32> = (0..BATCH * count).map(|_| random.word()).collect();
-            words.iter_mut().step_by(BATCH).for_each(|word| *word = SYNC);
-            words
+            any_batches(random, count)
         }
         4 => {
             // words of every sort, each with none to two wrong bits

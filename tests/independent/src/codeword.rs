@@ -10,8 +10,8 @@ pub const RESERVED: [u32; 2] = [250_958, 255_632];
 /// x^10 + x^9 + x^8 + x^6 + x^5 + x^3 + 1.
 const GENERATOR: u32 = 0b111_0110_1001;
 
-/// Remainder of bits 1 to 31 by the generator, in ten bits, then the parity of all 32: zero exactly for codewords. Bit by bit; it
-/// only fills the tables.
+/// Remainder of bits 1 to 31 by the generator, in ten bits, then the parity of all 32: zero exactly for codewords. Bit by bit: it
+/// fills the tables, and the slow word reader tests with it.
 const fn slow_syndrome(word: u32) -> u32 {
     let mut rest = word >> 1;
     let mut power = 30;
@@ -98,6 +98,14 @@ pub fn changed(received: u32, corrected: u32) -> u32 {
     (received ^ corrected).count_ones()
 }
 
+/// The slow word reader: the first codeword among the word itself, those one bit away and those two away, and how many bits
+/// away it is.
+pub fn correct_slowly(word: u32) -> Option<(u32, u32)> {
+    let one = (0..32).map(|i| (word ^ 1 << i, 1));
+    let two = (0..32).flat_map(|i| (0..i).map(move |j| (word ^ 1 << i ^ 1 << j, 2)));
+    [(word, 0)].into_iter().chain(one).chain(two).find(|&(tried, _)| slow_syndrome(tried) == 0)
+}
+
 pub fn is_reserved(upper: u32) -> bool {
     RESERVED.contains(&upper)
 }
@@ -163,11 +171,15 @@ mod tests {
         assert_eq!(WRONG_BITS.iter().filter(|&&wrong| wrong != NOT_CORRECTABLE).count(), 1 + 32 + 32 * 31 / 2);
     }
 
+    /// Words of every sort, the same each time.
+    fn any_words(count: usize) -> impl Iterator<Item = u32> {
+        let next = |word: &u32| Some(word.wrapping_mul(0x9E37_79B1).rotate_left(7).wrapping_add(0x7F4A_7C15));
+        std::iter::successors(Some(1), next).take(count)
+    }
+
     #[test]
     fn the_quick_syndrome_is_the_slow_one() {
-        let mut word = 1u32;
-        for _ in 0..10_000 {
-            word = word.wrapping_mul(0x9E37_79B1).rotate_left(7).wrapping_add(0x7F4A_7C15);
+        for word in any_words(10_000) {
             assert_eq!(syndrome(word), slow_syndrome(word));
         }
     }
@@ -181,22 +193,38 @@ mod tests {
         }
     }
 
+    /// The codeword and the number of bits changed, by the tables.
+    fn read(word: u32) -> Option<(u32, u32)> {
+        correct(word).map(|near| (near, changed(word, near)))
+    }
+
     #[test]
     fn up_to_two_wrong_bits_are_mended_and_three_are_not() {
-        // the codeword and the number of bits changed
-        let read = |word: u32| correct(word).map(|near| (near, changed(word, near)));
-        for codeword in [0, SYNC, IDLE, message(0x84333), address(0x1F_FFFF, 3)] {
-            assert_eq!(read(codeword), Some((codeword, 0)));
-            for i in 0..32 {
-                assert_eq!(read(codeword ^ 1 << i), Some((codeword, 1)));
-                for j in 0..i {
-                    assert_eq!(read(codeword ^ 1 << i ^ 1 << j), Some((codeword, 2)));
-                    for k in 0..j {
-                        assert_eq!(read(codeword ^ 1 << i ^ 1 << j ^ 1 << k), None);
+        for read in [read, correct_slowly] {
+            for codeword in [0, SYNC, IDLE, message(0x84333), address(0x1F_FFFF, 3)] {
+                assert_eq!(read(codeword), Some((codeword, 0)));
+                for i in 0..32 {
+                    assert_eq!(read(codeword ^ 1 << i), Some((codeword, 1)));
+                    for j in 0..i {
+                        assert_eq!(read(codeword ^ 1 << i ^ 1 << j), Some((codeword, 2)));
+                        for k in 0..j {
+                            assert_eq!(read(codeword ^ 1 << i ^ 1 << j ^ 1 << k), None);
+                        }
                     }
                 }
             }
         }
+    }
+
+    #[test]
+    fn both_word_readers_answer_alike() {
+        let mut refused = 0;
+        for word in any_words(100_000) {
+            assert_eq!(correct_slowly(word), read(word), "{word:08X}");
+            refused += u32::from(read(word).is_none());
+        }
+        // 529 of 2,048 words are at most two bits from a codeword
+        assert!((73_000..76_000).contains(&refused), "{refused}");
     }
 
     #[test]

@@ -1,7 +1,8 @@
 //! A bad day: the transmission of a job is damaged, by at most three flipped bits in a slot's word and two in a sync, and
 //! what the library reads of it is judged.
 
-use crate::compare::{shown, Comparison, Difference, Outcome};
+use crate::compare::{corrects, shown, Comparison, Difference, Outcome};
+use crate::engine::Engine;
 use crate::lent::Unit;
 use generate::words::{damage, Damage, BATCH};
 use generate::{listings, Random};
@@ -11,6 +12,9 @@ use independent::reader::{Changes, Log};
 
 /// One slot word in so many has three flips: from heavy damage to days on which most of the longest messages are whole.
 const RATES: &[usize] = &[2, 5, 20, 100, 500];
+
+/// One transmission in so many is read slowly too.
+const SLOW_DAYS: usize = 10;
 
 /// Jobs of one batch, for every set of lost slots.
 const SHORT: [&[u8]; 2] = [
@@ -47,6 +51,18 @@ impl<'a> Transmission<'a> {
         }
         words.truncate(report.words as usize);
         Ok(Transmission { job, pages: judge::sent(job, &slots), batches: words.split_off(PREAMBLE_WORDS) })
+    }
+
+    /// Each received word is corrected to the one that was sent, where it has at most two flips, and else refused.
+    fn corrected(&self, received: &[u32], engine: &Engine) -> Outcome {
+        for (&sent, &word) in self.batches.iter().zip(received) {
+            let expected = match (sent ^ word).count_ones() {
+                3 => card::Word { word, number: 20, changed: 0 },
+                changed => card::Word { word: sent, number: 0, changed },
+            };
+            corrects(engine, word, expected).map_err(|Difference(text)| self.wrong(received, &text))?;
+        }
+        Ok(())
     }
 
     /// What the library reads of the received words must be as R-9 has it. `how` says how they were read.
@@ -113,23 +129,16 @@ impl Comparison {
 
     /// The damaged words one by one, together, and as a listing behind any preamble.
     fn damaged(&mut self, transmission: &Transmission, received: &[u32]) -> Outcome {
-        for (&sent, &word) in transmission.batches.iter().zip(received) {
-            let answer = card::correct(word);
-            let expected = match (sent ^ word).count_ones() {
-                3 => card::Word { word, number: 20, changed: 0 },
-                changed => card::Word { word: sent, number: 0, changed },
-            };
-            if answer != expected {
-                let what = format!("{word:08X} for {sent:08X} is answered {answer:X?}");
-                return Err(transmission.wrong(received, &what));
-            }
-        }
-        self.count("bad day, each word", 0);
-        transmission.judged(received, "words", |out| card::read_words(received, out))?;
-        self.count("bad day, words", 0);
         let listing = listings::of_words(&u32::rubbish(&mut self.random, PREAMBLE_WORDS), received);
-        transmission.judged(received, "listing", |out| card::read_listing(&listing, out))?;
-        self.count("bad day, listing", 0);
+        for engine in self.engines(SLOW_DAYS) {
+            let how = engine.how;
+            transmission.corrected(received, engine)?;
+            self.count_by("bad day, each word", how, 0);
+            transmission.judged(received, &format!("words{how}"), |out| (engine.read_words)(received, out))?;
+            self.count_by("bad day, words", how, 0);
+            transmission.judged(received, &format!("listing{how}"), |out| (engine.read_listing)(&listing, out))?;
+            self.count_by("bad day, listing", how, 0);
+        }
         Ok(())
     }
 }

@@ -1,5 +1,6 @@
 //! One input to the library and to the independent implementation: both must give the same answer and leave the same buffers.
 
+use crate::engine::{engines, Engine};
 use crate::lent::Lent;
 use crate::states::Kept;
 use card::steps::{self, Step};
@@ -13,12 +14,20 @@ pub struct Difference(pub String);
 
 pub type Outcome = Result<(), Difference>;
 
-/// Counts comparisons by what was called and the number it answered, and keeps the random state of the buffers.
+/// One single word in so many is corrected slowly too.
+const SLOW_WORDS: usize = 5;
+/// An input of up to so many words is read slowly each time, one of n times as many once in n times.
+const SHORT: usize = 102;
+const BYTES_A_WORD: usize = 9;
+
+/// Counts comparisons by what was called, by which engine, and the number it answered, and keeps the random state of the buffers.
 pub struct Comparison {
-    pub counts: BTreeMap<(&'static str, u32), u64>,
+    pub counts: BTreeMap<(&'static str, &'static str, u32), u64>,
     /// How often a step was done, and how often number 11 had a single reason: comparisons that are counted above too.
     pub among: BTreeMap<&'static str, u64>,
     pub random: Random,
+    /// Whether the slow engine is asked each time.
+    pub slow_always: bool,
     /// The state before the step that is compared; kept here because it is large.
     pub scratch: Option<Box<Kept>>,
 }
@@ -26,20 +35,29 @@ pub struct Comparison {
 impl Comparison {
     pub fn new(seed: u64) -> Self {
         let random = Random::new(seed ^ 0x5EED_0FB0_FFE5);
-        Comparison { counts: BTreeMap::new(), among: BTreeMap::new(), random, scratch: None }
+        Comparison { counts: BTreeMap::new(), among: BTreeMap::new(), random, slow_always: true, scratch: None }
     }
 
     pub fn count(&mut self, what: &'static str, number: u32) {
-        *self.counts.entry((what, number)).or_default() += 1;
+        self.count_by(what, "", number);
+    }
+
+    /// Counts a call of the engine with that name.
+    pub fn count_by(&mut self, what: &'static str, how: &'static str, number: u32) {
+        *self.counts.entry((what, how, number)).or_default() += 1;
+    }
+
+    /// The engines to ask: the slow one always, or once in so many times.
+    pub fn engines(&mut self, once_in: usize) -> &'static [Engine] {
+        engines(self.slow_always || self.random.once_in(once_in))
     }
 
     pub fn correct(&mut self, word: u32) -> Outcome {
         let expected = corrected(word);
-        let got = card::correct(word);
-        if got != expected {
-            return differs("correct", got, expected, &format!("word {word:08X}"));
+        for engine in self.engines(SLOW_WORDS) {
+            corrects(engine, word, expected)?;
+            self.count_by("correct", engine.how, expected.number);
         }
-        self.count("correct", expected.number);
         Ok(())
     }
 
@@ -109,8 +127,8 @@ impl Comparison {
         let other = buffer_length(&mut self.random, exact);
         for length in [exact, other] {
             let input = || format!("out {length}, words:\n{}", shown_words(words));
-            let number = self.read(length, input, |out| reader::read_words(words, out), |out| card::read_words(words, out))?;
-            self.count("read words", number);
+            let read = |engine: &Engine, out: &mut [u8]| (engine.read_words)(words, out);
+            self.read("read words", words.len(), length, input, |out| reader::read_words(words, out), read)?;
         }
         Ok(())
     }
@@ -121,40 +139,39 @@ impl Comparison {
         let other = buffer_length(&mut self.random, exact);
         for length in [exact, other] {
             let input = || format!("out {length}, listing:\n{}", shown(listing));
-            let number =
-                self.read(length, input, |out| reader::read_listing(listing, out), |out| card::read_listing(listing, out))?;
-            self.count("read listing", number);
+            let read = |engine: &Engine, out: &mut [u8]| (engine.read_listing)(listing, out);
+            self.read("read listing", listing.len() / BYTES_A_WORD, length, input, |out| reader::read_listing(listing, out), read)?;
         }
         Ok(())
     }
 
+    /// Reads so many words into a buffer of the given length.
     fn read(
         &mut self,
+        what: &'static str,
+        words: usize,
         length: usize,
         input: impl Fn() -> String,
         independent: impl FnOnce(&mut [u8]) -> Result<reader::Reading, Refusal>,
-        library: impl FnOnce(&mut [u8]) -> card::Reading,
-    ) -> Result<u32, Difference> {
+        library: impl Fn(&Engine, &mut [u8]) -> card::Reading,
+    ) -> Outcome {
         let before: Lent<u8> = Lent::new(&mut self.random, length);
-        let (mut out, mut out_got) = (before.clone(), before.clone());
-        let expected = match independent(out.slice()) {
-            Ok(reader::Reading { bytes, pages, lost, orphans, changed: reader::Changes { slots, syncs } }) => {
-                card::Reading { place: 0, bytes, number: 0, pages, lost, orphans, changed: card::Changes { slots, syncs } }
-            }
-            Err(Refusal { number, place }) => {
-                let changed = card::Changes { slots: 0, syncs: 0 };
-                card::Reading { place, bytes: 0, number, pages: 0, lost: 0, orphans: 0, changed }
-            }
-        };
+        let mut out = before.clone();
+        let expected = reading(independent(out.slice()));
         if expected.number != 0 {
-            out = before;
+            out = before.clone();
         }
-        let got = library(out_got.slice());
-        if got != expected {
-            differs("read", got, expected, &input())?;
+        for engine in self.engines(words.div_ceil(SHORT).max(1)) {
+            let mut out_got = before.clone();
+            let got = library(engine, out_got.slice());
+            let name = format!("{what}{}", engine.how);
+            if got != expected {
+                return differs(&name, got, expected, &input());
+            }
+            same_buffer(&name, &out_got, &out, &input)?;
+            self.count_by(what, engine.how, expected.number);
         }
-        same_buffer("read", &out_got, &out, input)?;
-        Ok(expected.number)
+        Ok(())
     }
 
     /// A job's start and steps, to the end and somewhat further: the words that sending writes, then done.
@@ -220,12 +237,34 @@ impl Comparison {
     }
 }
 
+/// What the independent implementation answers for a reading.
+fn reading(result: Result<reader::Reading, Refusal>) -> card::Reading {
+    match result {
+        Ok(reader::Reading { bytes, pages, lost, orphans, changed: reader::Changes { slots, syncs } }) => {
+            card::Reading { place: 0, bytes, number: 0, pages, lost, orphans, changed: card::Changes { slots, syncs } }
+        }
+        Err(Refusal { number, place }) => {
+            let changed = card::Changes { slots: 0, syncs: 0 };
+            card::Reading { place, bytes: 0, number, pages: 0, lost: 0, orphans: 0, changed }
+        }
+    }
+}
+
 /// What the independent implementation answers for a single word.
 pub fn corrected(word: u32) -> card::Word {
     match codeword::correct(word) {
         Some(near) => card::Word { word: near, number: 0, changed: codeword::changed(word, near) },
         None => card::Word { word, number: 20, changed: 0 },
     }
+}
+
+/// An engine gives the expected answer for a single word.
+pub fn corrects(engine: &Engine, word: u32, expected: card::Word) -> Outcome {
+    let got = (engine.correct)(word);
+    if got != expected {
+        return differs(&format!("correct{}", engine.how), got, expected, &format!("word {word:08X}"));
+    }
+    Ok(())
 }
 
 pub fn differs(what: &str, got: impl std::fmt::Debug, expected: impl std::fmt::Debug, input: &str) -> Outcome {

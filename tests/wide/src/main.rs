@@ -1,15 +1,16 @@
 //! The wide comparison: the library and the independent implementation on the same generated inputs.
 //!
-//!     wide [ROUNDS [SEED [SENDING_PROGRAM READING_PROGRAM]]]
+//!     wide [ROUNDS [SEED [SENDING_PROGRAM READING_PROGRAM [SLOW_READING_PROGRAM]]]]
 //!     wide all-words
 //!
-//! The second corrects every 32-bit word and compares nothing else. Prints how many comparisons it made of each sort; at the first
-//! difference prints the input and both answers and ends with 1.
+//! The second corrects every 32-bit word, one in 4,099 by the slow engine too, and compares nothing else. Prints how many
+//! comparisons it made of each sort; at the first difference prints the input and both answers and ends with 1.
 //! What is compared: the answer, every unit of every lent buffer and the sentinels around it, and, for a declined call, that
 //! the buffers are as before. What the library reads of a transmission with up to three wrong bits a word is judged by R-9.
 
 mod bad_day;
 mod compare;
+mod engine;
 mod lent;
 mod programs;
 mod states;
@@ -23,6 +24,9 @@ use std::process::ExitCode;
 const ROUNDS: u64 = 3000;
 const SEED: u64 = 1;
 
+/// Of all words the slow engine corrects the multiples of this number, some million of them.
+const SLOW_STEP: u32 = 4_099;
+
 fn main() -> ExitCode {
     let arguments: Vec<String> = std::env::args().skip(1).collect();
     if arguments == ["all-words"] {
@@ -30,17 +34,10 @@ fn main() -> ExitCode {
         return all_words();
     }
     let number = |at: usize, default: u64| arguments.get(at).map_or(Ok(default), |text| text.parse());
-    let (Ok(rounds), Ok(seed)) = (number(0, ROUNDS), number(1, SEED)) else {
-        eprintln!("wide [ROUNDS [SEED [SENDING_PROGRAM READING_PROGRAM]]], or wide all-words");
+    let programs = Programs::named(&arguments[arguments.len().min(2)..]);
+    let (Ok(rounds), Ok(seed), Ok(programs)) = (number(0, ROUNDS), number(1, SEED), programs) else {
+        eprintln!("wide [ROUNDS [SEED [SENDING_PROGRAM READING_PROGRAM [SLOW_READING_PROGRAM]]]], or wide all-words");
         return ExitCode::from(2);
-    };
-    let programs = match &arguments[arguments.len().min(2)..] {
-        [sending, reading] => Some(Programs { sending: sending.clone(), reading: reading.clone() }),
-        [] => None,
-        _ => {
-            eprintln!("both programs are needed");
-            return ExitCode::from(2);
-        }
     };
     println!("{rounds} rounds, seed {seed}");
     say_if_stand_in();
@@ -65,19 +62,22 @@ fn say_if_stand_in() {
     }
 }
 
-/// Every 32-bit word, corrected by both.
+/// Every 32-bit word, corrected by the library and the independent implementation.
 fn all_words() -> ExitCode {
-    let mut answered = 0u64;
+    let (mut answered, mut slowly) = (0u64, 0u64);
     for word in 0..=u32::MAX {
-        let got = card::correct(word);
         let expected = compare::corrected(word);
-        if got != expected {
-            println!("DIFFERENCE\nword {word:08X}: got {got:X?}, expected {expected:X?}");
-            return ExitCode::FAILURE;
+        let slow_too = word % SLOW_STEP == 0;
+        for engine in engine::engines(slow_too) {
+            if let Err(Difference(text)) = compare::corrects(engine, word, expected) {
+                println!("DIFFERENCE\n{text}");
+                return ExitCode::FAILURE;
+            }
         }
         answered += u64::from(expected.number == 0);
+        slowly += u64::from(slow_too);
     }
-    println!("no difference in {} words, {answered} of them answered", 1u64 << 32);
+    println!("no difference in {} words, {answered} of them answered; {slowly} corrected slowly too", 1u64 << 32);
     ExitCode::SUCCESS
 }
 
@@ -121,7 +121,15 @@ fn limits(comparison: &mut Comparison) -> Outcome {
             comparison.list(job, bytes)?;
         }
     }
-    // the largest jobs
+    largest(comparison)?;
+    // from here on the slow engine gets a share
+    comparison.slow_always = false;
+    comparison.bad_day_limits()?;
+    comparison.state_limits()
+}
+
+/// The largest jobs, and the reading that takes the slow engine longest.
+fn largest(comparison: &mut Comparison) -> Outcome {
     let mut random = Random::new(0);
     let mut largest: Vec<Vec<u8>> = (0..8).map(|frame| jobs::maximal(&mut random, &[frame])).collect();
     largest.push(jobs::latest(&mut random));
@@ -132,8 +140,9 @@ fn limits(comparison: &mut Comparison) -> Outcome {
         comparison.round_trip(&job)?;
         comparison.bad_day(&job)?;
     }
-    comparison.bad_day_limits()?;
-    comparison.state_limits()
+    let any = words::any_batches(&mut random, words::MOST_BATCHES);
+    comparison.words(&any)?;
+    comparison.listing(&listings::listing(9, 0xAAAA_AAAA, &any))
 }
 
 /// A word with every pattern of at most three wrong bits.
@@ -178,11 +187,11 @@ fn round(comparison: &mut Comparison, random: &mut Random) -> Outcome {
 
 /// How many comparisons there were of each call, by the number that it answered.
 fn print_counts(comparison: &Comparison) {
-    let mut last = "";
-    for ((what, number), count) in &comparison.counts {
-        if *what != last {
-            println!("{what}");
-            last = what;
+    let mut last = ("", "");
+    for ((what, how, number), count) in &comparison.counts {
+        if (*what, *how) != last {
+            println!("{what}{how}");
+            last = (what, how);
         }
         match number {
             0 => println!("    answered     {count:>12}"),

@@ -1,4 +1,4 @@
-//! The two programs, run as they are: what each prints for an input must be what the independent implementation says.
+//! The programs, run as they are: what each prints for an input must be what the independent implementation says.
 
 use crate::compare::{shown, Comparison, Difference, Outcome};
 use generate::{jobs, listings, Random};
@@ -6,13 +6,25 @@ use independent::program;
 use std::io::Write;
 use std::process::{Command, Stdio};
 
-/// Paths of the sending and of the reading program.
+/// Paths of the sending and of the reading program, and perhaps of the reading program on the slow engine.
 pub struct Programs {
-    pub sending: String,
-    pub reading: String,
+    sending: String,
+    reading: String,
+    slow_reading: Option<String>,
 }
 
 impl Programs {
+    /// No programs, or two or three.
+    pub fn named(paths: &[String]) -> Result<Option<Self>, ()> {
+        match paths {
+            [] => Ok(None),
+            [sending, reading, slow @ ..] if slow.len() < 2 => {
+                Ok(Some(Programs { sending: sending.clone(), reading: reading.clone(), slow_reading: slow.first().cloned() }))
+            }
+            _ => Err(()),
+        }
+    }
+
     /// Inputs around the most that is read, and small ones; the same in every run.
     pub fn limits(&self, comparison: &mut Comparison) -> Outcome {
         for length in [0, 1, 65_535, 65_536, 65_537, 70_000, 200_000] {
@@ -45,27 +57,27 @@ impl Programs {
     }
 
     fn send(&self, comparison: &mut Comparison, input: &[u8]) -> Outcome {
-        compare(&self.sending, input, program::sending(input))?;
+        compare(&self.sending, input, &program::sending(input))?;
         comparison.count("sending program", 0);
         Ok(())
     }
 
     fn read(&self, comparison: &mut Comparison, input: &[u8]) -> Outcome {
-        compare(&self.reading, input, program::reading(input))?;
+        let expected = program::reading(input);
+        compare(&self.reading, input, &expected)?;
         comparison.count("reading program", 0);
+        if let Some(path) = &self.slow_reading {
+            compare(path, input, &expected)?;
+            comparison.count("slow reading program", 0);
+        }
         Ok(())
     }
 }
 
-fn compare(path: &str, input: &[u8], expected: Vec<u8>) -> Outcome {
+fn compare(path: &str, input: &[u8], expected: &[u8]) -> Outcome {
     let got = run(path, input).map_err(|error| Difference(format!("{path}: {error}")))?;
     if got != expected {
-        return Err(Difference(format!(
-            "{path} prints\n{}\nexpected\n{}\ninput:\n{}",
-            shown(&got),
-            shown(&expected),
-            shown(input)
-        )));
+        return Err(Difference(format!("{path} prints\n{}\nexpected\n{}\ninput:\n{}", shown(&got), shown(expected), shown(input))));
     }
     Ok(())
 }

@@ -26,5 +26,8 @@ fn with_each_mistake() {
         if JUDGED.contains(fault) {
             assert!(text.contains("broken: "), "{fault}: {text}");
         }
+        // the slow engine's own mistakes, and no others, are found in what it answers
+        let (_, difference) = text.split_once("DIFFERENCE").expect("seen above");
+        assert_eq!(difference.contains("slowly: "), fault.starts_with("slow-"), "{fault}: {text}");
     }
 }
