@@ -25,9 +25,12 @@ use Rattle.codeword.proofs.Tests.{all, all-at}
 use Rattle.codeword.proofs.XorLaws.{xor-assoc, xor-cancel}
 
 -- the first of two answers that is there
-abbrev pub orLater : Option ℕ → Option ℕ → Option ℕ
+abbrev orLater : Option ℕ → Option ℕ → Option ℕ
 orLater none o = o
 orLater (some c) o = some c
+
+knowing : (q : Option ℕ) {o p : Option ℕ} → o ≡ p → orLater o q ≡ orLater p q
+knowing q e = ap (λ (o : Option ℕ). orLater o q) e
 
 else-later : (b : Bool) (x : ℕ) (o p q : Option ℕ) → q ≡ orLater o p → orElse b x q ≡ orLater (orElse b x o) p
 else-later true x o p q e = refl
@@ -68,7 +71,7 @@ module _ (n : ℕ) (l : n < 32) where
       ∙ ap (λ (x : ℕ). bitXor (bitXor w x) (e * 2 ^ (32 - n))) (sym it-is)
 
   -- d + 1 of the first n + 1 bits flipped: of the first n, or bit n + 1 and d of the first n
-  pub tried-more : (w d : ℕ) → tried w (suc n) (suc d) ≡ orLater (tried w n (suc d)) (tried (bitXor w (2 ^ 31 / 2 ^ n)) n d)
+  tried-more : (w d : ℕ) → tried w (suc n) (suc d) ≡ orLater (tried w n (suc d)) (tried (bitXor w (2 ^ 31 / 2 ^ n)) n d)
   unfolding tried words
   tried-more w d =
       first-of-two (λ e. bitXor w (e * it)) (map (λ x. x * 2) (words n (suc d))) (map (λ x. x * 2 + 1) (words n d))
@@ -84,18 +87,13 @@ unfolding words
 no-ones zero = refl
 no-ones (suc n) = ap (map (λ x. x * 2)) (no-ones n)
 
-tried-itself : (w n : ℕ) → tried w n 0 ≡ orElse (obeys w) w none
+pub itself : (w n : ℕ) {b : Bool} → obeys w ≡ b → tried w n 0 ≡ orElse b w none
 unfolding tried firstCodeword
-tried-itself w n =
+itself w n e =
     let nothing : 0 * 2 ^ (32 - n) ≡ 0 = omega arith in
     ap (λ (es : List ℕ). firstCodeword (map (λ e. bitXor w (e * 2 ^ (32 - n))) es)) (no-ones n)
     ∙ ap (λ (x : ℕ). orElse (obeys x) x none) (ap (bitXor w) nothing ∙ xor-zero-r w)
-
-pub itself : (w n : ℕ) → obeys w ≡ true → tried w n 0 ≡ some w
-itself w n e = tried-itself w n ∙ ap (λ (b : Bool). orElse b w none) e
-
-pub itself-not : (w n : ℕ) → obeys w ≡ false → tried w n 0 ≡ none
-itself-not w n e = tried-itself w n ∙ ap (λ (b : Bool). orElse b w none) e
+    ∙ ap (λ (b : Bool). orElse b w none) e
 
 -- of no bits none is flipped
 pub tried-start : (w d : ℕ) → tried w 0 (suc d) ≡ none
@@ -135,24 +133,21 @@ module _ (w d : ℕ) where
       (λ e. subst (λ (x : ℕ). tried w x (suc d) ≡ some c) e f)
       (λ m.
       tried-more n h w d
-      ∙ ap (λ (o : Option ℕ). orLater o (tried (bitXor w (2 ^ 31 / 2 ^ n)) n d)) (found-before k n c (omega arith) (omega arith) f))
+      ∙ knowing (tried (bitXor w (2 ^ 31 / 2 ^ n)) n d) (found-before k n c (omega arith) (omega arith) f))
       (eq-or-lt-of-le l)
 
   -- nothing is found with the first k bits, and next comes bit k + 1
   module _ (k : ℕ) (missed : tried w k (suc d) ≡ none) (l : k < 32) where
-    next : tried w (k + 1) (suc d) ≡ tried (bitXor w (2 ^ 31 / 2 ^ k)) k d
-    next =
+    pub tried-next : tried w (k + 1) (suc d) ≡ tried (bitXor w (2 ^ 31 / 2 ^ k)) k d
+    tried-next =
         ap (λ (n : ℕ). tried w n (suc d)) (add-one k)
         ∙ tried-more k l w d
-        ∙ ap (λ (o : Option ℕ). orLater o (tried (bitXor w (2 ^ 31 / 2 ^ k)) k d)) missed
-
-    pub tried-on : tried (bitXor w (2 ^ 31 / 2 ^ k)) k d ≡ none → tried w (k + 1) (suc d) ≡ none
-    tried-on f = next ∙ f
+        ∙ knowing (tried (bitXor w (2 ^ 31 / 2 ^ k)) k d) missed
 
     pub found : (n : ℕ) (c : Codeword) → Ones (suc d) → k < n → n ≤ 32 → tried (bitXor w (2 ^ 31 / 2 ^ k)) k d ≡ some (c .0)
         → Corrected c (suc d) ≡ answer w (tried w n (suc d))
     found n c t m h f =
-        let there : tried w (k + 1) (suc d) ≡ some (c .0) = next ∙ f in
+        let there : tried w (k + 1) (suc d) ≡ some (c .0) = tried-next ∙ f in
         ap (Corrected c) (sym (away w (suc d) (c .0) t (found-before (k + 1) 32 (c .0) (omega arith) (omega arith) there)))
         ∙ sym (ap (answer w) (found-before (k + 1) n (c .0) (omega arith) h there))
 
@@ -173,16 +168,16 @@ module _ (w : ℕ) where
   pub at-once : obeys w ≡ true → Corrected (record { 0 = w }) 0 ≡ answer w (nearest w)
   at-once e =
       ap (Corrected (record { 0 = w })) (sym (distance-self w))
-      ∙ sym (ap (answer w) (all-tried ∙ ap (λ (o : Option ℕ). orLater o (orLater (tried w 32 1) (tried w 32 2))) (itself w 32 e)))
+      ∙ sym (ap (answer w) (all-tried ∙ knowing (orLater (tried w 32 1) (tried w 32 2)) (itself w 32 e)))
 
   module _ (f : obeys w ≡ false) where
     flipped : nearest w ≡ orLater (tried w 32 1) (tried w 32 2)
-    flipped = all-tried ∙ ap (λ (o : Option ℕ). orLater o (orLater (tried w 32 1) (tried w 32 2))) (itself-not w 32 f)
+    flipped = all-tried ∙ knowing (orLater (tried w 32 1) (tried w 32 2)) (itself w 32 f)
 
     pub one-bit : (r : Correction) (c : Codeword) (n : ℕ) → r ≡ answer w (tried w 32 1) → r ≡ Corrected c n → r ≡ answer w (nearest w)
     one-bit r c n q e =
         let it : tried w 32 1 ≡ some (c .0) = answer-corrected w (tried w 32 1) c n (sym e ∙ q) in
-        q ∙ ap (answer w) (it ∙ sym (flipped ∙ ap (λ (o : Option ℕ). orLater o (tried w 32 2)) it))
+        q ∙ ap (answer w) (it ∙ sym (flipped ∙ knowing (tried w 32 2) it))
 
     pub two-bits : Refused ≡ answer w (tried w 32 1) → answer w (tried w 32 2) ≡ answer w (nearest w)
-    two-bits q = sym (ap (answer w) (flipped ∙ ap (λ (o : Option ℕ). orLater o (tried w 32 2)) (answer-refused w (tried w 32 1) q)))
+    two-bits q = sym (ap (answer w) (flipped ∙ knowing (tried w 32 2) (answer-refused w (tried w 32 1) q)))

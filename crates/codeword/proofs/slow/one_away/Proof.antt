@@ -5,7 +5,7 @@ use Prim.Native.Nat.{_≤_, _-_}
 use native.Mathlib.Omega.{arith}
 use borrow.Author.Needs.{needs}
 use Rattle.codeword.specs.Tried.{tried}
-use Rattle.codeword.proofs.TriedLaws.{tried-start, tried-on, found, none-found, one-each, itself, itself-not}
+use Rattle.codeword.proofs.TriedLaws.{tried-start, tried-next, found, none-found, one-each, itself}
 use Rattle.codeword.proofs.slow.one_away.Statement.{statement}
 use Rattle.codeword.proofs.slow.one_away.Tie as tie
 
@@ -27,8 +27,8 @@ obeys-requires c κs = search needs
 returns : tie.Need-returns Inv-loop μ-loop
 returns c =
     let l = c .before .before .before in
-    let tells = sym (c .before .obeys .ensures) ∙ c .if1 .taken in
-    found _ 0 (l .loop .k) (l .loop .inv .1) (omega arith) _ _ one-each (omega arith) (omega arith) (itself _ (l .loop .k) tells)
+    found _ 0 (l .loop .k) (l .loop .inv .1) (omega arith) _ _ one-each (omega arith) (omega arith)
+    (itself _ (l .loop .k) (sym (c .before .obeys .ensures) ∙ c .if1 .taken))
 
 add-k : tie.Need-add-k Inv-loop μ-loop
 add-k c = search needs
@@ -38,9 +38,10 @@ loop-less c = search needs
 
 loop-again : tie.Need-loop-again Inv-loop μ-loop
 loop-again c =
-    let l = c .before .before .before in
-    let tells = sym (c .before .obeys .ensures) ∙ c .if1 .left in
-    (omega arith, tried-on _ 0 (l .loop .k) (l .loop .inv .1) (omega arith) (itself-not _ (l .loop .k) tells))
+    let l = c .before .before .before in (
+      omega arith,
+      tried-next _ 0 (l .loop .k) (l .loop .inv .1) (omega arith) ∙ itself _ (l .loop .k) (sym (c .before .obeys .ensures) ∙ c .if1 .left),
+    )
 
 returns-2 : tie.Need-returns-2 Inv-loop μ-loop
 returns-2 c = none-found _ 1 _ _ (c .before .loop .inv .1) (omega arith)

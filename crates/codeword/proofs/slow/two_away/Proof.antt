@@ -6,7 +6,7 @@ use native.Mathlib.Omega.{arith}
 use borrow.Author.Needs.{needs}
 use Rattle.codeword.specs.Tried.{tried}
 use Rattle.codeword.proofs.AnswerLaws.{answer-corrected, answer-refused}
-use Rattle.codeword.proofs.TriedLaws.{tried-start, tried-on, found, none-found, two-each}
+use Rattle.codeword.proofs.TriedLaws.{tried-start, tried-next, found, none-found, two-each}
 use Rattle.codeword.proofs.slow.two_away.Statement.{statement}
 use Rattle.codeword.proofs.slow.two_away.Tie as tie
 
@@ -31,8 +31,8 @@ enum-known-found c = search needs
 returns : tie.Need-returns Inv-loop μ-loop
 returns c =
     let l = c .before .before .before .before .before in
-    let tells = answer-corrected _ _ _ _ (sym (c .before .found .given .1) ∙ c .before .before .before .one-away .ensures) in
-    found _ 1 (l .loop .k) (l .loop .inv .1) (omega arith) _ _ two-each (omega arith) (omega arith) tells
+    found _ 1 (l .loop .k) (l .loop .inv .1) (omega arith) _ _ two-each (omega arith) (omega arith)
+    (answer-corrected _ _ _ _ (sym (c .before .found .given .1) ∙ c .before .before .before .one-away .ensures))
 
 enum-told : tie.Need-enum-told Inv-loop μ-loop
 enum-told c = search needs
@@ -45,9 +45,11 @@ loop-less c = search needs
 
 loop-again : tie.Need-loop-again Inv-loop μ-loop
 loop-again c =
-    let l = c .before .before .before .before in
-    let tells = answer-refused _ _ (sym (c .enum-told .given .1) ∙ c .before .before .one-away .ensures) in
-    (omega arith, tried-on _ 1 (l .loop .k) (l .loop .inv .1) (omega arith) tells)
+    let l = c .before .before .before .before in (
+      omega arith,
+      tried-next _ 1 (l .loop .k) (l .loop .inv .1) (omega arith)
+          ∙ answer-refused _ _ (sym (c .enum-told .given .1) ∙ c .before .before .one-away .ensures),
+    )
 
 returns-2 : tie.Need-returns-2 Inv-loop μ-loop
 returns-2 c = none-found _ 2 _ _ (c .before .loop .inv .1) (omega arith)
