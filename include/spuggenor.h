@@ -41,9 +41,10 @@ struct card_word {
 /* Corrects a word, all 32 bits counted. */
 struct card_word card_correct(uint32_t word);
 
-/* The same answer for every word, by the slow engine (R-14). It tests the word itself by long division, bit by bit, then every word
- * one bit away, then every word two bits away, and stops at the first codeword. It is there for whoever wants an answer that does
- * not rest on working the wrong bits out of the remainder. It takes much longer, longest for a word that is refused. */
+/* The same answer for every word, by the slow engine: it tries the word itself, then every word one bit away, then every word two bits
+ * away, tests each by long division, bit by bit, and stops at the first codeword. It is there for whoever wants an answer without the
+ * arithmetic by which card_correct finds the wrong bits. A codeword takes it some 3 times as long, a word with two wrong bits 400
+ * times, a refused one more. */
 struct card_word card_correct_slowly(uint32_t word);
 
 /* ---- a job as a whole. A job is its page lines, up to CARD_PAGES of them. */
@@ -95,8 +96,8 @@ struct card_reading card_read_words(const uint32_t *words, size_t words_length, 
 /* The same of a listing, its preamble included. */
 struct card_reading card_read_listing(const uint8_t *listing, size_t listing_length, uint8_t *out, size_t out_length);
 
-/* The two readings on the slow engine: for every input the same answers, and the same bytes in out. They take much longer, longest
- * where many words are lost. */
+/* The two readings with the slots' words corrected by the slow engine: for every input the same answers, and the same bytes in out.
+ * 300 batches may take 30 ms where many words are lost. */
 struct card_reading card_read_words_slowly(const uint32_t *words, size_t words_length, uint8_t *out, size_t out_length);
 struct card_reading card_read_listing_slowly(const uint8_t *listing, size_t listing_length, uint8_t *out, size_t out_length);
 

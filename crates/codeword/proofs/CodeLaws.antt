@@ -144,9 +144,9 @@ module _ (w : ℕ) (h : w < 2 ^ 32) where
 
 -- in terms of what is left of the first 31 bits after the division, and of the parity
 module _ (w r : ℕ) (h : w < 2 ^ 32) (q : r ≡ remainder 31 (w / 2)) where
-  pub obeys-not : (r ≡ 0 → ⊥) → false ≡ obeys w
+  pub obeys-not : (r ≡ 0 → ⊥) → eqb r 0 ≡ obeys w
   unfolding syndrome
-  obeys-not n = sym (obeys-is w h ∙ ne-eqb (syndrome w) 0 (λ z. n (omega arith)))
+  obeys-not n = ne-eqb r 0 n ∙ sym (obeys-is w h ∙ ne-eqb (syndrome w) 0 (λ z. n (omega arith)))
 
   pub obeys-even : (p : ℕ) → r ≡ 0 → p ≡ weight w % 2 → eqb p 0 ≡ obeys w
   unfolding syndrome

@@ -95,17 +95,17 @@ itself w n e =
     ∙ ap (λ (x : ℕ). orElse (obeys x) x none) (ap (bitXor w) nothing ∙ xor-zero-r w)
     ∙ ap (λ (b : Bool). orElse b w none) e
 
--- of no bits none is flipped
+-- with no bits to flip nothing is found
 pub tried-start : (w d : ℕ) → tried w 0 (suc d) ≡ none
 unfolding tried words firstCodeword
 tried-start w d = refl
 
--- of 32 bits any may be
+-- with all 32 bits it is a part of the search of `nearest`
 whole : (w d : ℕ) → tried w 32 d ≡ firstCodeword (map (bitXor w) (words 32 d))
 unfolding tried
 whole w d = λ i. firstCodeword (map (λ e. bitXor w (mul-one e i)) (words 32 d))
 
--- the numbers with d ones have d ones
+-- each of the numbers that `words 32 d` lists has d ones
 abbrev Ones : ℕ → Type 0
 Ones d = T (all (λ e. eqb (weight e) d) (words 32 d))
 

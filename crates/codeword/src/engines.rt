@@ -8,13 +8,13 @@ use super::correct_slowly;
 
 // Which engine corrects.
 pub enum Engine {
-    // `correct`: by remainder and parity.
+    // `correct`: by checks and parity.
     Fast,
     // `correct_slowly`: by trying.
     Slow,
 }
 
-// What each engine returns for a word.
+// What `correct` and `correct_slowly` return for a word.
 pub struct Both {
     pub fast: Correction,
     pub slow: Correction,
@@ -30,7 +30,7 @@ pub fn correct_by(engine: Engine, word: u32) -> Correction
     }
 }
 
-// The engines agree: for every word of 32 bits they return the same word, the same count or the same refusal.
+// The engines agree: for every word of 32 bits `correct` and `correct_slowly` return the same codeword with the same count, or both refuse.
 pub fn engines_agree(word: u32) -> Both
     ensures { λ r. ⌜ r .fast ≡ r .slow ⌝ }
     ensures { λ r. ⌜ r .slow ≡ answer word (nearest word) ⌝ }

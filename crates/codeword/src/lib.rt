@@ -62,7 +62,7 @@ pub enum Correction {
     Refused,
 }
 
-// A received word corrected.
+// A received word corrected, by the fast engine.
 pub fn correct(word: u32) -> Correction
     ensures { λ r. ⌜ r ≡ answer word (nearest word) ⌝ }
 {

@@ -15,7 +15,8 @@ const BIT_1: u32 = 0x8000_0000;
 // x^10 + x^9 + x^8 + x^6 + x^5 + x^3 + 1: a one for each power that is there.
 const DIVISOR: u32 = 0b111_0110_1001;
 
-// The received word, else the first word one bit away, else two, that obeys the code.
+// The received word, else the first word one bit away, else two, that obeys the code, and how many bits that changed. Refused where none
+// of them does.
 pub fn correct_slowly(word: u32) -> Correction
     ensures { λ r. ⌜ r ≡ answer word (nearest word) ⌝ }
 {
@@ -43,7 +44,7 @@ fn one_away(word: u32, n: u32) -> Correction
     Correction::Refused
 }
 
-// The first word that obeys the code among those with two bits flipped: each bit with each one before it.
+// The first word that obeys the code among those with two bits flipped: each bit with each of the bits before it, so no pair comes twice.
 fn two_away(word: u32) -> Correction
     ensures { λ r. ⌜ r ≡ answer word (tried word 32 2) ⌝ }
 {
@@ -56,18 +57,17 @@ fn two_away(word: u32) -> Correction
     Correction::Refused
 }
 
-// Whether a word obeys the code: nothing is left of bits 1 to 31 after the division, and the number of ones is even.
+// Whether a word obeys the code. A sender chooses bits 22 to 31 so that nothing is left of bits 1 to 31 after the division, and bit 32 so
+// that the number of ones is even.
 fn obeys(word: u32) -> bool
     ensures { λ r. ⌜ r ≡ obeys word ⌝ }
 {
-    if left_over(word) != 0 {
-        return false;
-    }
-    parity(word) == 0
+    left_over(word) == 0 && parity(word) == 0
 }
 
-// What is left of bits 1 to 31 after long division by the divisor. Each bit in turn is brought down behind what is left so far; where
-// that has eleven bits, as the divisor has, the divisor is taken away, without borrowing: a bit from a bit leaves 1 where the two differ.
+// What is left of bits 1 to 31 after long division by the divisor. Each in turn, bit k + 1, is brought down behind what is left so far;
+// where that has eleven bits, as the divisor has, the divisor is taken away, without borrowing: a bit from a bit leaves 1 where the two
+// differ.
 fn left_over(word: u32) -> u32
     ensures { λ r. ⌜ r ≡ remainder 31 (word / 2) ⌝ }
 {

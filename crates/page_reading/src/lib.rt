@@ -1,5 +1,4 @@
-// What both reading programs do; they differ in the engine that they hand in. No contract can speak of what is read or printed; the work
-// itself is in the library.
+// What both reading programs do; they differ in the engine that they hand in.
 use codeword::Engine;
 use libc::STDIN_FILENO;
 use reader::Reading;

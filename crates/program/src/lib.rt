@@ -1,4 +1,4 @@
-// What both programs share: the size of their input, and the line of a refusal. No contract can speak of what is read or written;
+// What the programs share: the size of their input, and the line of a refusal. No contract can speak of what is read or written;
 // the work itself is in the library.
 use libc::STDOUT_FILENO;
 

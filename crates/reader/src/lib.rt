@@ -506,8 +506,8 @@ fn read_batches(engine: Engine, words: &[u32], out: &mut [u8]) -> Reading
     read_symbols(&symbols[..slots], changed, out)
 }
 
-// Reads a slice of words, batches only, with either engine: the lines of the pages go to the front of the bytes, and what stands behind
-// them keeps its value.
+// Reads a slice of words, batches only: the lines of the pages go to the front of the bytes, and what stands behind them keeps its value.
+// The engine corrects the slots' words; sync is told, with either, by the bits that differ.
 pub fn read_words(engine: Engine, words: &[u32], out: &mut [u8]) -> Reading
     ensures { λ r. ⌜ r ≡ readWords (now (words .entry)) (length (now (out .entry))) ⌝ }
     ensures { λ r. ⌜ now (out .exit) ≡ over (now (out .entry)) (linesRead r (now (words .entry))) ⌝ }

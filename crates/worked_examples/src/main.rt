@@ -1,5 +1,6 @@
 // Runs worked examples of document 01, and both sides of the limits of its rules. Each line of standard input is an example: a
 // letter that says what is asked, a space, and the question. The program prints the line and, behind it, what the library answers.
+// The small letters w, r and l ask what W, R and L ask, of the slow engine.
 use codeword::Codeword;
 use codeword::Correction;
 use codeword::Engine;
@@ -64,7 +65,7 @@ fn print_correction(answer: Correction) {
     print_number(changed as u64);
 }
 
-// `W 00000003`: what a received word reads as, and how many bits are changed. `w` asks the slow engine.
+// `W 00000003`: what a received word reads as, and how many bits are changed.
 fn word(engine: Engine, line: &[u8]) {
     print_correction(codeword::correct_by(engine, number_in(line, 2, 10)));
 }
@@ -307,7 +308,7 @@ fn words_in(line: &[u8], words: &mut [u32]) {
     }
 }
 
-// `R 7CD215D8 000026EC C2199DEA`: what a batch of these words, idle behind them, reads as. `r` asks the slow engine.
+// `R 7CD215D8 000026EC C2199DEA`: what a batch of these words, idle behind them, reads as.
 fn read(engine: Engine, line: &[u8]) {
     let mut words = [0u32; 17];
     words_in(line, &mut words);
@@ -316,7 +317,7 @@ fn read(engine: Engine, line: &[u8]) {
     print_reading(answer, &out);
 }
 
-// `L AAAAAAAA AAAAAAAA|..`: what a listing reads as. `l` asks the slow engine.
+// `L AAAAAAAA AAAAAAAA|..`: what a listing reads as.
 fn list(engine: Engine, line: &[u8]) {
     if line.len() < 2 {
         return;

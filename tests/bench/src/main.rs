@@ -52,7 +52,7 @@ struct Bench {
     bytes: Vec<u8>,
 }
 
-/// The words of a row of single words.
+/// How many words a row of single words has.
 const COUNT: usize = 4096;
 
 type WrongBits = fn(&mut Random) -> u32;
@@ -220,8 +220,9 @@ impl Bench {
     }
 
     fn reading_slowly(&mut self) {
+        let batches = self.largest();
         for (name, damage) in [CLEAN, LIGHT] {
-            let mut received = self.largest();
+            let mut received = batches.clone();
             words::damage(&mut self.random, &mut received, damage);
             self.slow_row(&format!("of the largest job, {name}"), &listings::listing(9, 0xAAAA_AAAA, &received));
         }

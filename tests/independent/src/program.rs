@@ -1,4 +1,4 @@
-//! The two programs: what each prints for its standard input.
+//! The sending and the reading program: what each prints for its standard input.
 
 use crate::listing::{self, BYTES_A_WORD};
 use crate::reader;

@@ -5,6 +5,7 @@ use crate::lent::Lent;
 use crate::states::Kept;
 use card::steps::{self, Step};
 use generate::{buffer_length, Random};
+use independent::listing::BYTES_A_WORD;
 use independent::send::Accepted;
 use independent::{codeword, judge, reader, send, Refusal};
 use std::collections::BTreeMap;
@@ -18,7 +19,6 @@ pub type Outcome = Result<(), Difference>;
 const SLOW_WORDS: usize = 5;
 /// An input of up to so many words is read slowly each time, one of n times as many once in n times.
 const SHORT: usize = 102;
-const BYTES_A_WORD: usize = 9;
 
 /// Counts comparisons by what was called, by which engine, and the number it answered, and keeps the random state of the buffers.
 pub struct Comparison {

@@ -1,4 +1,4 @@
-//! The library's two engines: the calls that correct words, with a word reader of their own and with the same answers.
+//! The library's two engines, each with the calls that correct words.
 
 pub struct Engine {
     /// What stands behind the name of a call.
