@@ -3,4 +3,5 @@ pub mod Sound
 pub mod Keeping
 pub mod Accepted
 pub mod PrintLaws
+pub mod RefusalLaws
 pub mod Printed

@@ -1,24 +1,86 @@
-// What the programs share: the size of their input, and the line of a refusal. No contract can speak of what is read or written;
-// the work itself is in the library.
-use libc::STDOUT_FILENO;
+// What the programs do: standard input in, and the bytes out that are printed (document 01, "The two programs"). Each program is one call of
+// `send` or `read`, and the few lines around it that read and write.
+ghost use mathlib.Core.Path.{_≡_};
+ghost use mathlib.Core.List.{_++_};
+ghost use Prim.Native.Nat.{_+_, _≤_};
+ghost use lib.ListN.{length, take, drop};
+ghost use Rattle.base.specs.Lists.{over};
+ghost use Rattle.program.specs.Prints.{decimal, refusalLine, sendPrints, readPrints};
+use codeword::Engine;
+use job_listing::Listed;
+use reader::Reading;
 
-// Room for standard input, and one byte more: number 24 is for an input of over 65,536 bytes.
-pub fn input_buffer() -> [u8; 65537] {
-    [0; 65537]
+// Writes bytes behind those that stand at the front of a slice, and answers where they end.
+fn append(out: &mut [u8], at: usize, part: &[u8]) -> usize
+    requires { ⌜ at + length (now part) ≤ length (now out) ⌝ }
+    ensures { λ r. ⌜ r ≡ at + length (now (part .entry)) ⌝ }
+    ensures { λ _. ⌜ now (out .exit) ≡ take at (now (out .entry)) ++ over (drop at (now (out .entry))) (now (part .entry)) ⌝ }
+{
+    let n = bytes::copy(part, &mut out[at..]);
+    at + n
 }
 
-// Prints `refused N place P`.
-pub fn print_refusal(number: u32, place: usize) {
-    io::write_all(STDOUT_FILENO, b"refused ");
-    io::print_decimal(STDOUT_FILENO, number as u64);
-    io::write_all(STDOUT_FILENO, b" place ");
-    io::print_decimal(STDOUT_FILENO, place as u64);
-    io::write_all(STDOUT_FILENO, b"\n");
+// The same with a number in decimal.
+fn append_decimal(out: &mut [u8], at: usize, number: u64) -> usize
+    requires { ⌜ at + 20 ≤ length (now out) ⌝ }
+    ensures { λ r. ⌜ r ≡ at + length (decimal number) ⌝ }
+    ensures { λ _. ⌜ now (out .exit) ≡ take at (now (out .entry)) ++ over (drop at (now (out .entry))) (decimal number) ⌝ }
+{
+    let mut digits = [0u8; 20];
+    let n = io::decimal(number, &mut digits);
+    append(out, at, &digits[..n])
 }
 
-// Prints the first n bytes of a slice.
-pub fn print_front(out: &[u8], n: usize) {
-    if n <= out.len() {
-        io::write_all(STDOUT_FILENO, &out[..n]);
+// Writes the line of a refusal over the front of a slice, and answers how many bytes it has.
+fn write_refusal(number: u32, place: usize, out: &mut [u8]) -> usize
+    requires { ⌜ 64 ≤ length (now out) ⌝ }
+    ensures { λ r. ⌜ r ≡ length (refusalLine number place) ⌝ }
+    ensures { λ _. ⌜ now (out .exit) ≡ over (now (out .entry)) (refusalLine number place) ⌝ }
+{
+    let mut n = append(out, 0, b"refused ");
+    n = append_decimal(out, n, number as u64);
+    n = append(out, n, b" place ");
+    n = append_decimal(out, n, place as u64);
+    append(out, n, b"\n")
+}
+
+// What the sending program prints for its standard input, over the front of the bytes; answers how many they are.
+pub fn send(input: &[u8], out: &mut [u8; 46062]) -> usize
+    ensures { λ r. ⌜ r ≡ length (sendPrints (now (input .entry))) ⌝ }
+    ensures { λ _. ⌜ now (out .exit) ≡ over (now (out .entry)) (sendPrints (now (input .entry))) ⌝ }
+{
+    if 65536 < input.len() {
+        return write_refusal(24, 0, out);
+    }
+    let answer = job_listing::list_job(input, out);
+    let number = job_listing::number(answer);
+    let place = job_listing::place(answer);
+    match answer {
+        Listed::Written(n) => n,
+        Listed::Declined { why: _, place: _ } => write_refusal(number, place, out),
+        Listed::NoRoom => write_refusal(number, place, out),
+    }
+}
+
+// What a reading program prints for its standard input; answers how many bytes they are.
+pub fn read(engine: Engine, input: &[u8], out: &mut [u8; 48000]) -> usize
+    ensures { λ r. ⌜ r ≡ length (readPrints (now (input .entry))) ⌝ }
+    ensures { λ _. ⌜ now (out .exit) ≡ over (now (out .entry)) (readPrints (now (input .entry))) ⌝ }
+{
+    if 65536 < input.len() {
+        return write_refusal(24, 0, out);
+    }
+    let answer = reader::read_listing(engine, input, out);
+    let number = reader::number(answer);
+    let place = reader::place(answer);
+    match answer {
+        Reading::Read {
+            pages: _,
+            lost: _,
+            orphans: _,
+            changed: _,
+            bytes,
+        } => bytes,
+        Reading::Declined(_) => write_refusal(number, place, out),
     }
 }

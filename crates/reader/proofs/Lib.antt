@@ -7,3 +7,4 @@ pub mod PageLaws
 pub mod OverLaws
 pub mod Keeping
 pub mod Runs
+pub mod RoomLaws

@@ -20,7 +20,7 @@ use Rattle.text.specs.declared.Coding.the-variants.{Numeric, Alphanumeric}
 use Rattle.text.proofs.BitLaws.{low-same, cut-bit}
 use Rattle.text.proofs.HeardLaws.{heard-fits}
 use Rattle.text.proofs.PairLaws.{pairs-length}
-use Rattle.job.specs.Print.{printed, printingOf, written}
+use Rattle.job.specs.Print.{ending, printed, printingOf, written}
 use Rattle.job.specs.declared.Printing.{Printing}
 use Rattle.job.specs.declared.Printing.the-variants.{Printed, NoRoom}
 use Rattle.job.proofs.PrintLaws.{spaced-few, ending-few, printed-length}
@@ -55,11 +55,11 @@ digits-short f gs = go (eqb f 0) (eqb f 3)
     go false true = pairs-short Alphanumeric gs
     go false false = omega (arith, fives-length gs)
 
--- eleven bytes for each slot of the page
-pub line-short : (identity kind f : ℕ) (gs : List ℕ) (cut : Bool) → length (printed identity kind (digitsHeard f gs) cut) ≤ 11 * (length gs + 1)
+-- ten digits a group, and its identity, kind, spaces and end
+pub line-short : (identity kind f : ℕ) (gs : List ℕ) (cut : Bool) → length (printed identity kind (digitsHeard f gs) cut) ≤ 10 * length gs + 9 + length (ending cut)
 line-short identity kind f gs cut =
     let ds = digitsHeard f gs in
-    omega (arith, printed-length identity kind ds cut, spaced-few ds, ending-few cut, digits-short f gs)
+    omega (arith, printed-length identity kind ds cut, spaced-few ds, digits-short f gs)
 
 -- ---- a message word's symbol in the place of its group
 
@@ -128,6 +128,7 @@ module _ (symbols : List ℕ) (a s : ℕ) (cut : Bool) where
         omega (
           arith,
           line-short (address / 4 * 8 + frameOf a) (kindHeard (address % 4) (groupsSaid words)) (address % 4) (groupsSaid words) cut,
+          ending-few cut,
           length-map words (λ x. x % 2 ^ 20),
           count,
         )

@@ -1,0 +1,127 @@
+-- What the programs print, case by case, as the code goes. Assumes nothing.
+use mathlib.Core.Path.{_≡_, refl, sym, ap, _∙_}
+use mathlib.Core.Bool.{Bool, true, false, cond}
+use mathlib.Core.List.{List}
+use Prim.Native.Nat.{ℕ, _+_, _/_, _≤_, _<_}
+use native.Mathlib.Omega.{arith}
+use lib.ListN.{length}
+use lib.Dec.{ltb}
+use borrow.Author.Tests.{lt-ltb, le-ltb, ne-eqb}
+use Rattle.base.specs.Lists.{over}
+use Rattle.job.specs.Job.{jobOf}
+use Rattle.job.specs.Refusal as refusal
+use Rattle.job.specs.declared.Refusal.{Refusal}
+use Rattle.job.specs.declared.JobAnswer.{JobAnswer}
+use Rattle.job.specs.declared.JobAnswer.the-variants.{Accepted, Refused}
+use Rattle.job.proofs.RefusalLaws.{refused-number}
+use Rattle.job_listing.specs.Listed as listed
+use Rattle.job_listing.specs.Listed.{answered, listingText, listedOf, bytesListed}
+use Rattle.job_listing.specs.declared.Listed.{Listed}
+use Rattle.job_listing.specs.declared.Listed.the-variants.{Written, Declined, NoRoom}
+use Rattle.listing.specs.Listing.{listingOf}
+use Rattle.listing.specs.Words.{wordsOf}
+use Rattle.listing.specs.declared.Listing.{Listing}
+use Rattle.listing.specs.declared.Listing.the-variants.{WellFormed}
+use Rattle.listing.specs.declared.Listing.the-variants as listing
+use Rattle.reader.specs.Reading.{Heard, heardIn}
+use Rattle.reader.specs.Lines.{linesHeard}
+use Rattle.reader.specs.Answers.{firstUnsynced, printedInto, readBatches, readFrom, readListing, linesRead, numberOf, placeOf}
+use Rattle.reader.specs.declared.Changes.{Changes}
+use Rattle.reader.specs.declared.Fault.{Fault}
+use Rattle.reader.specs.declared.Fault.the-variants.{Malformed, TooMany, Unsynced, NoRoom as NoBytes}
+use Rattle.reader.specs.declared.Reading.{Reading}
+use Rattle.reader.specs.declared.Reading.the-variants.{Read}
+use Rattle.reader.specs.declared.Reading.the-variants as reading
+use Rattle.program.specs.Prints.{refusalLine, answerText, sendPrints, readPrints}
+
+-- bytes over the front of what was lent, and their number
+abbrev pub Printed : List ℕ → List ℕ → ℕ → List ℕ → Type 0
+Printed old text n out = (n ≡ length text) × (out ≡ over old text)
+
+same : (old a b out : List ℕ) (n : ℕ) → a ≡ b → Printed old a n out → Printed old b n out
+same old a b out n e p = (p .0 ∙ ap length e, p .1 ∙ ap (over old) e)
+
+module _ (s old : List ℕ) {n : ℕ} {out : List ℕ} where
+  -- number 24
+  pub send-long : 65536 < length s → Printed old (refusalLine 24 0) n out → Printed old (sendPrints s) n out
+  unfolding sendPrints
+  send-long h p = same old (refusalLine 24 0) (sendPrints s) out n (rw (lt-ltb 65536 (length s) h)) p
+
+  pub read-long : 65536 < length s → Printed old (refusalLine 24 0) n out → Printed old (readPrints s) n out
+  unfolding readPrints
+  read-long h p = same old (refusalLine 24 0) (readPrints s) out n (rw (lt-ltb 65536 (length s) h)) p
+
+  -- the listing, or the line of its refusal
+  pub send-is : (l : Listed) → length s ≤ 65536 → length old ≡ 46062 → l ≡ listedOf s (length old)
+      → Printed old (answerText (listed.numberOf l) (listed.placeOf l) (listingText s)) n out → Printed old (sendPrints s) n out
+  unfolding sendPrints
+  send-is l h room e p =
+      same old (answerText (listed.numberOf l) (listed.placeOf l) (listingText s)) (sendPrints s) out n (rw (le-ltb 65536 (length s) h, e, room)) p
+
+  -- the lines, or the line of the listing's refusal
+  pub read-is : (r : Reading) → length s ≤ 65536 → length old ≡ 48000 → r ≡ readListing s (length old)
+      → Printed old (answerText (numberOf r) (placeOf r) (linesRead r (wordsOf s))) n out → Printed old (readPrints s) n out
+  unfolding readPrints
+  read-is r h room e p =
+      same old (answerText (numberOf r) (placeOf r) (linesRead r (wordsOf s))) (readPrints s) out n (rw (le-ltb 65536 (length s) h, e, room)) p
+
+-- ---- the cases of an answer
+
+module _ (s : List ℕ) (room : ℕ) where
+  -- a listing that is written has so many bytes
+  listing-size : (m : ℕ) → Written m ≡ listedOf s room → m ≡ length (listingText s)
+  unfolding listedOf
+  listing-size m e = go (jobOf s) e
+    where
+      fit : (b : Bool) → Written m ≡ cond b NoRoom (Written (length (listingText s))) → m ≡ length (listingText s)
+      fit true f = let z : _≡_ {A = ℕ} 0 1 = cc in absurd (omega arith)
+      fit false f = cc
+      go : (a : JobAnswer) → Written m ≡ answered a room (listingText s) → m ≡ length (listingText s)
+      go (Accepted n) f = fit (ltb room (length (listingText s))) f
+      go (Refused why place) f = let z : _≡_ {A = ℕ} 0 1 = cc in absurd (omega arith)
+
+-- the lines of a reading that is not declined have so many bytes
+module _ (words : List ℕ) (room : ℕ) {pages lost orphans : ℕ} {changed : Changes} {m : ℕ} where
+  into-size : (h : Heard) → Read pages lost orphans changed m ≡ printedInto h room → m ≡ length (linesHeard (h .pages))
+  into-size h e = go (ltb room (length (linesHeard (h .pages)))) e
+    where
+      go : (b : Bool) → Read pages lost orphans changed m ≡ cond b (reading.Declined NoBytes) (Read (length (h .pages)) (h .lost) (h .orphans) (h .changed) (length (linesHeard (h .pages)))) → m ≡ length (linesHeard (h .pages))
+      go true f = let z : _≡_ {A = ℕ} 0 1 = cc in absurd (omega arith)
+      go false f = cc
+
+  batches-size : Read pages lost orphans changed m ≡ readBatches words room → m ≡ length (linesHeard (heardIn words .pages))
+  unfolding readBatches
+  batches-size e = go (ltb (firstUnsynced words) (length words / 17)) e
+    where
+      go : (b : Bool) → Read pages lost orphans changed m ≡ cond b (reading.Declined (Unsynced (firstUnsynced words + 1))) (printedInto (heardIn words) room) → m ≡ length (linesHeard (heardIn words .pages))
+      go true f = let z : _≡_ {A = ℕ} 0 1 = cc in absurd (omega arith)
+      go false f = into-size (heardIn words) f
+
+  from-size : (l : Listing) → Read pages lost orphans changed m ≡ readFrom l words room → m ≡ length (linesHeard (heardIn words .pages))
+  from-size (WellFormed p b) e = batches-size e
+  from-size (listing.Declined why) e = let z : _≡_ {A = ℕ} 0 1 = cc in absurd (omega arith)
+
+module _ (s old : List ℕ) (h : length s ≤ 65536) {out : List ℕ} where
+  pub send-written : (n : ℕ) → length old ≡ 46062 → Written n ≡ listedOf s (length old) → out ≡ over old (listingText s) → Printed old (sendPrints s) n out
+  send-written n room e o = send-is s old (Written n) h room e (listing-size s (length old) n e, o)
+
+  pub send-declined : (n place : ℕ) (why : Refusal) → length old ≡ 46062 → Declined why place ≡ listedOf s (length old) → Printed old (refusalLine (refusal.numberOf why) place) n out
+      → Printed old (sendPrints s) n out
+  send-declined n place why room e p =
+      send-is s old (Declined why place) h room e
+      (same old (refusalLine (refusal.numberOf why) place) (answerText (refusal.numberOf why) place (listingText s)) out n (rw (ne-eqb (refusal.numberOf why) 0 (λ z. omega (arith, refused-number why .0)))) p)
+
+  pub send-full : (n : ℕ) → length old ≡ 46062 → NoRoom ≡ listedOf s (length old) → Printed old (refusalLine 10 0) n out → Printed old (sendPrints s) n out
+  send-full n room e p = send-is s old NoRoom h room e p
+
+  pub read-whole : (n pages lost orphans : ℕ) (changed : Changes) → length old ≡ 48000 → Read pages lost orphans changed n ≡ readListing s (length old)
+      → out ≡ over old (linesHeard (heardIn (wordsOf s) .pages)) → Printed old (readPrints s) n out
+  unfolding readListing
+  read-whole n pages lost orphans changed room e o = read-is s old (Read pages lost orphans changed n) h room e (from-size (wordsOf s) (length old) (listingOf s) e, o)
+
+  pub read-declined : (n : ℕ) (why : Fault) → length old ≡ 48000 → reading.Declined why ≡ readListing s (length old)
+      → Printed old (refusalLine (numberOf (reading.Declined why)) (placeOf (reading.Declined why))) n out → Printed old (readPrints s) n out
+  read-declined n (Malformed line) room e p = read-is s old (reading.Declined (Malformed line)) h room e p
+  read-declined n (TooMany line) room e p = read-is s old (reading.Declined (TooMany line)) h room e p
+  read-declined n (Unsynced batch) room e p = read-is s old (reading.Declined (Unsynced batch)) h room e p
+  read-declined n NoBytes room e p = read-is s old (reading.Declined NoBytes) h room e p

@@ -1,0 +1,49 @@
+-- What the programs print for their standard input (document 01, "The two programs", and number 24 of its table).
+use Prim.Native.Nat.{ℕ, suc, _^_}
+use mathlib.Core.Bool.{cond}
+use mathlib.Core.List.{List, [], _∷_, _++_}
+use lib.ListN.{length}
+use lib.Dec.{eqb, ltb}
+use Rattle.io.specs.Digits.{digits}
+use Rattle.base.specs.Search.{least}
+use Rattle.job_listing.specs.Listed as listed
+use Rattle.job_listing.specs.Listed.{listingText, listedOf}
+use Rattle.listing.specs.Words.{wordsOf}
+use Rattle.reader.specs.Answers.{readListing, linesRead, numberOf, placeOf}
+
+-- how many digits a number below 10^20 has in decimal; 0 has one
+abbrev pub decimalLength : ℕ → ℕ
+decimalLength n = suc (least (λ k. ltb n (10 ^ suc k)) 19)
+
+-- such a number in decimal
+unfoldable pub decimal : ℕ → List ℕ
+decimal n = digits 10 (decimalLength n) n
+
+-- `refused `
+abbrev pub refused : List ℕ
+refused = 114 ∷ 101 ∷ 102 ∷ 117 ∷ 115 ∷ 101 ∷ 100 ∷ 32 ∷ []
+
+-- ` place `
+abbrev pub place : List ℕ
+place = 32 ∷ 112 ∷ 108 ∷ 97 ∷ 99 ∷ 101 ∷ 32 ∷ []
+
+-- the line `refused N place P`
+unfoldable pub refusalLine : ℕ → ℕ → List ℕ
+refusalLine n p = refused ++ (decimal n ++ (place ++ (decimal p ++ (10 ∷ []))))
+
+-- an answer with this number and place: its text where nothing is declined, else the line of the refusal
+abbrev pub answerText : ℕ → ℕ → List ℕ → List ℕ
+answerText n p text = cond (eqb n 0) text (refusalLine n p)
+
+-- number 24, for an input of over 65,536 bytes, comes before all others
+abbrev pub unlessLong : List ℕ → List ℕ → List ℕ
+unlessLong input text = cond (ltb 65536 (length input)) (refusalLine 24 0) text
+
+-- the sending program, which has room for 46,062 bytes: a job's listing
+unfoldable pub sendPrints : List ℕ → List ℕ
+sendPrints s = unlessLong s (answerText (listed.numberOf (listedOf s 46062)) (listed.placeOf (listedOf s 46062)) (listingText s))
+
+-- the reading programs, which have room for 48,000 bytes: a listing's page lines in slot order
+unfoldable pub readPrints : List ℕ → List ℕ
+readPrints s =
+    unlessLong s (answerText (numberOf (readListing s 48000)) (placeOf (readListing s 48000)) (linesRead (readListing s 48000) (wordsOf s)))

@@ -1,0 +1,98 @@
+-- How long the lines of what is heard can be: ten bytes a slot. Assumes nothing.
+use mathlib.Core.Path.{_≡_, refl, ap}
+use mathlib.Core.Bool.{Bool, true, false, not, cond, _||_}
+use mathlib.Core.List.{List, [], _∷_}
+use mathlib.Core.Option.{Option, none, some}
+use Prim.Native.Nat.{ℕ, zero, suc, _+_, _*_, _/_, _%_, _≤_}
+use native.Mathlib.Omega.{arith}
+use lib.ListN.{length, length-append}
+use lib.Dec.{eqb, ltb}
+use borrow.Author.Tests.{ltb-false, le-ltb}
+use Rattle.codeword.specs.Nearest.{nearest}
+use Rattle.job.specs.Print.{ending}
+use Rattle.listing.specs.Listing.{listingOf}
+use Rattle.listing.specs.Words.{wordsOf}
+use Rattle.listing.specs.declared.Fault.the-variants as listing-fault
+use Rattle.listing.specs.declared.Listing.{Listing}
+use Rattle.listing.specs.declared.Listing.the-variants as listing
+use Rattle.listing.proofs.Indexed.{formed}
+use Rattle.reader.specs.Meaning.{meaning}
+use Rattle.reader.specs.Reading.{Hearing, State, extended, closedAs, close, take, hear, readAt, slotWord, heardIn}
+use Rattle.reader.specs.Lines.{kindHeard, lineHeard, linesHeard}
+use Rattle.reader.specs.Answers.{firstUnsynced, printedInto, readBatches, readWords, readFrom, readListing, numberOf}
+use Rattle.reader.specs.declared.Fault.the-variants.{Malformed, TooMany, Unsynced}
+use Rattle.reader.specs.declared.Reading.the-variants.{Declined}
+use Rattle.reader.specs.declared.Meaning.{Meaning}
+use Rattle.reader.specs.declared.Meaning.the-variants.{Lost, Idle, Address, Message}
+use Rattle.reader.proofs.Blocks.{lines-more}
+use Rattle.reader.proofs.PageLaws.{line-short}
+
+-- ten bytes for each slot that the open page has taken
+abbrev due : Option Hearing → ℕ
+due none = 0
+due (some h) = 10 * (length (h .groups) + 1)
+
+-- a line cut short takes one byte more: the lost word has a slot of its own
+close-short : (cut : Bool) (pages : List Hearing) (held : Option Hearing) → length (linesHeard (close cut pages held)) + 1 ≤ length (linesHeard pages) + due held + length (ending cut)
+unfolding close
+close-short true pages none = omega arith
+close-short false pages none = omega arith
+close-short cut pages (some h) =
+    omega (
+      arith,
+      ap length (lines-more pages (closedAs cut h)),
+      length-append (linesHeard pages) (lineHeard (closedAs cut h)),
+      line-short (h .identity) (kindHeard (h .function) (h .groups)) (h .function) (h .groups) cut,
+    )
+
+-- the bytes of the closed pages, and those of the open one
+abbrev bytes : State → ℕ
+bytes st = length (linesHeard (st .pages)) + due (st .held)
+
+take-short : (b : ℕ) (r : State) (held : Option Hearing) → bytes (take b r held) ≤ length (linesHeard (r .pages)) + due held + 10
+unfolding take
+take-short b r none = omega arith
+take-short b r (some p) = omega (arith, length-append (p .groups) (b ∷ []))
+
+hear-short : (s : ℕ) (r : State) (m : Meaning) → bytes (hear s r m) ≤ bytes r + 10
+unfolding hear
+hear-short s r Lost = omega (arith, close-short true (r .pages) (r .held))
+hear-short s r Idle = omega (arith, close-short false (r .pages) (r .held))
+hear-short s r (Address u f) = omega (arith, close-short false (r .pages) (r .held))
+hear-short s r (Message b) = take-short b r (r .held)
+
+read-short : (word : ℕ → ℕ) (s : ℕ) → bytes (readAt word s) ≤ 10 * s
+unfolding readAt linesHeard
+read-short word zero = omega arith
+read-short word (suc s) = omega (arith, hear-short s (readAt word s) (meaning (nearest (word s))), read-short word s)
+
+-- what is heard of whole batches takes ten bytes of lines a slot
+pub lines-short : (words : List ℕ) → length (linesHeard (heardIn words .pages)) ≤ 160 * (length words / 17)
+unfolding heardIn
+lines-short words =
+    let n = 16 * (length words / 17) in
+    let st = readAt (slotWord words) n in
+    omega (arith, close-short false (st .pages) (st .held), read-short (slotWord words) n)
+
+-- ---- number 10
+
+fits : (words : List ℕ) (room : ℕ) → length words / 17 ≤ 300 → 48000 ≤ room → numberOf (printedInto (heardIn words) room) ≡ 0
+fits words room few h = rw (le-ltb room (length (linesHeard (heardIn words .pages))) (omega (arith, lines-short words)))
+
+batches-fit : (words : List ℕ) (room : ℕ) → length words / 17 ≤ 300 → 48000 ≤ room → numberOf (readBatches words room) ≡ 10 → ⊥
+unfolding readBatches
+batches-fit words room few h = go (ltb (firstUnsynced words) (length words / 17))
+  where
+    go : (b : Bool) → numberOf (cond b (Declined (Unsynced (firstUnsynced words + 1))) (printedInto (heardIn words) room)) ≡ 10 → ⊥
+    go true e = omega arith
+    go false e = omega (arith, fits words room few h)
+
+words-fit : (words : List ℕ) (room : ℕ) → 48000 ≤ room → numberOf (readWords words room) ≡ 10 → ⊥
+unfolding readWords
+words-fit words room h = go (eqb (length words) 0 || not (eqb (length words % 17) 0)) (ltb 300 (length words / 17)) refl
+  where
+    go : (a b : Bool) → ltb 300 (length words / 17) ≡ b → numberOf (cond a (Declined (Malformed 0)) (cond b (Declined (TooMany 0)) (readBatches words room))) ≡ 10 → ⊥
+    go true b f e = omega arith
+    go false true f e = omega arith
+    go false false f e = batches-fit words room (ltb-false 300 (length words / 17) f) h e
+
