@@ -5,3 +5,5 @@ pub mod Placed
 pub mod Steps
 pub mod Examples
 pub mod Skips
+pub mod Sendable
+pub mod Placing

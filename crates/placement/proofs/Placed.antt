@@ -15,8 +15,9 @@ use Rattle.base.specs.Search.{least, sum}
 use Rattle.base.proofs.ListLaws.{tab-length, tab-at, tab-list}
 use Rattle.base.proofs.Bools.{true-false, and-true, and-both}
 use Rattle.base.proofs.SearchLaws.{Least, least-is, least-only, sum-cong, le-or-lt}
-use Rattle.placement.specs.Placement.{Job, jobOf, Framed, Sendable, slotBound, State, Content, address, message, isMessage, stateAt, contentAt, allOut, endsWith, batches, slotOf, slots}
+use Rattle.placement.specs.Placement.{Job, jobOf, Framed, slotBound, State, Content, address, message, isMessage, stateAt, contentAt, allOut, endsWith, batches, slotOf, slots}
 use Rattle.placement.specs.Promise.{before, Holds, nothing, itsAddress, itsMessage, Placed, Limits}
+use Rattle.placement.proofs.Sendable.{Sendable}
 use Rattle.placement.proofs.Turn.{Turn, runs, starts, rests, ready-true}
 use Rattle.placement.proofs.Bounds.{none-sent, all-sent, total-start, good, gone, total, count, no-message, none-unsent}
 use Rattle.placement.proofs.Contents.{slot, pause-is, began, marks, keeps-on, comes, running, follows, Runs, runs-at}

@@ -2,12 +2,11 @@
 -- without the sync words. Each has a content and a state before it, by recursion on its number. The number of batches is the least with
 -- which the transmission can end, looked for up to demand 3's bound; the theorem `Placed` (specs/Promise.antt) says that one is always
 -- found.
-use mathlib.Core.Path.{_≡_}
 use mathlib.Core.Bool.{Bool, true, false, not, cond, _&&_, _||_}
-use mathlib.Core.List.{List}
-use Prim.Native.Nat.{ℕ, zero, suc, pred, _+_, _-_, _*_, _/_, _%_, _≤_, _<_}
+use mathlib.Core.List.{List, [], _∷_}
+use Prim.Native.Nat.{ℕ, zero, suc, pred, _+_, _-_, _*_, _/_, _%_, _<_}
 use lib.ListN.{getD, set, replicate, length}
-use lib.Dec.{eqb, ltb}
+use lib.Dec.{eqb, leb, ltb}
 use Rattle.base.specs.Lists.{tab}
 use Rattle.base.specs.Search.{least, sum}
 
@@ -31,12 +30,16 @@ messages job = sum (job .words) (job .pages)
 abbrev pub jobOf : List ℕ → List ℕ → Job
 jobOf frames words = record { pages = length frames; frame = λ i. getD frames i 0; words = λ i. getD words i 0 }
 
--- what every accepted job has: frames 0 to 7, at most 48 pages (number 8), and at most 4,032 message codewords, which is 84 a page
-pub record Sendable (frames words : List ℕ) : Type 0 where
-  pub framed : Framed (jobOf frames words)
-  pub few : length frames ≤ 48
-  pub short : messages (jobOf frames words) ≤ 4032
-  pub paired : length words ≡ length frames
+-- each frame is one of the eight
+unfoldable pub allFramed : List ℕ → Bool
+allFramed [] = true
+allFramed (f ∷ frames) = ltb f 8 && allFramed frames
+
+-- a job that can be sent, as every accepted one can: a number of message codewords for each frame, at most 48 pages (number 8), frames 0
+-- to 7, and at most 4,032 message codewords, which is 84 a page
+unfoldable pub isSendable : List ℕ → List ℕ → Bool
+isSendable frames words =
+    eqb (length words) (length frames) && leb (length frames) 48 && allFramed frames && leb (messages (jobOf frames words)) 4032
 
 -- ---- demand 3's two bounds
 
@@ -155,3 +158,17 @@ slotOf job i = pred (getD (stateAt job (16 * batches job) .sent) i 0)
 -- the reported slots of all pages, in job order
 unfoldable pub slots : Job → List ℕ
 slots job = tab (slotOf job) (job .pages)
+
+-- ---- placing into a slice that is lent for the slots
+
+-- a job is placed where it can be sent and the slice has room for a slot of each page
+abbrev pub isPlaced : List ℕ → List ℕ → ℕ → Bool
+isPlaced frames words room = isSendable frames words && leb (length frames) room
+
+-- the answer: the number of batches, or 0, which is no placement's, where the job isn't placed
+abbrev pub batchesIn : List ℕ → List ℕ → ℕ → ℕ
+batchesIn frames words room = cond (isPlaced frames words room) (batches (jobOf frames words)) 0
+
+-- what is written over the slice's front: the reported slots, or nothing where the job isn't placed
+abbrev pub slotsIn : List ℕ → List ℕ → ℕ → List ℕ
+slotsIn frames words room = cond (isPlaced frames words room) (slots (jobOf frames words)) []

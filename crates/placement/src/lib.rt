@@ -1,12 +1,12 @@
 // Placement of a job's pages in frames and batches: document 01, "Placement", with the pause after a message (R-3).
 ghost use mathlib.Core.Path.{_≡_};
-ghost use mathlib.Core.Bool.{not, cond, _&&_};
+ghost use mathlib.Core.Bool.{true, not, cond, _&&_};
 ghost use mathlib.Core.List.{map};
-ghost use Prim.Native.Nat.{pred, _*_, _%_, _≤_};
+ghost use Prim.Native.Nat.{pred, _*_, _%_};
 ghost use lib.Dec.{eqb};
 ghost use lib.ListN.{length, replicate};
 ghost use Rattle.base.specs.Lists.{over};
-ghost use Rattle.placement.specs.Placement.{Sendable, jobOf, mayStart, stateAt, batches, slots};
+ghost use Rattle.placement.specs.Placement.{isSendable, jobOf, mayStart, stateAt, batches, slots, batchesIn, slotsIn};
 
 // What a free slot starts: a page, by its number in the job, or nothing.
 enum Start {
@@ -86,10 +86,37 @@ fn at_end(slot: u32, message: bool, left: u32, sent: usize, n: usize) -> bool
     sent == n
 }
 
+// Whether a job can be sent, by its pages' frames and numbers of message codewords.
+fn is_sendable(frames: &[u8], words: &[u32]) -> bool
+    ensures { λ r. ⌜ r ≡ isSendable (now (frames .entry)) (now (words .entry)) ⌝ }
+{
+    let n = frames.len();
+    if words.len() != n {
+        return false;
+    }
+    if 48 < n {
+        return false;
+    }
+    let mut left: u32 = 4032;
+    let mut i = 0;
+    while i < n {
+        if 7 < frames[i] {
+            return false;
+        }
+        let count = words[i];
+        if left < count {
+            return false;
+        }
+        left -= count;
+        i += 1;
+    }
+    true
+}
+
 // Goes through the slots and answers the number of batches. A page's mark, 0 at first, becomes one more than its address slot.
 // Every page of a frame below the frame's entry in `next` is sent, so the search for the frame's next page starts there.
 fn run(frames: &[u8], words: &[u32], marks: &mut [u32]) -> u32
-    requires { ⌜ Sendable (now frames) (now words) ⌝ }
+    requires { ⌜ isSendable (now frames) (now words) ≡ true ⌝ }
     requires { ⌜ now marks ≡ replicate (length (now frames)) 0 ⌝ }
     ensures { λ r. ⌜ r ≡ batches (jobOf (now (frames .entry)) (now (words .entry))) ⌝ }
     ensures { λ r. ⌜ now (marks .exit) ≡ stateAt (jobOf (now (frames .entry)) (now (words .entry))) (16 * r) .sent ⌝ }
@@ -134,7 +161,7 @@ fn run(frames: &[u8], words: &[u32], marks: &mut [u32]) -> u32
 
 // Places a job as `place` does, where `out` has just one place a page.
 fn place_exact(frames: &[u8], words: &[u32], out: &mut [u32]) -> u32
-    requires { ⌜ Sendable (now frames) (now words) ⌝ }
+    requires { ⌜ isSendable (now frames) (now words) ≡ true ⌝ }
     requires { ⌜ length (now out) ≡ length (now frames) ⌝ }
     ensures { λ r. ⌜ r ≡ batches (jobOf (now (frames .entry)) (now (words .entry))) ⌝ }
     ensures { λ r. ⌜ now (out .exit) ≡ slots (jobOf (now (frames .entry)) (now (words .entry))) ⌝ }
@@ -146,14 +173,18 @@ fn place_exact(frames: &[u8], words: &[u32], out: &mut [u32]) -> u32
 }
 
 // Places a job, given by its pages' frames and numbers of message codewords: the slots of the addresses go to the front of `out`, in
-// the job's order, and the answer is the number of batches. Only the library's sending calls this. It has accepted the job and
-// tested the room before, and proves both.
+// the job's order, and the answer is the number of batches, which is 1 or more. Where the job cannot be sent, or `out` has fewer places
+// than the job has pages, the answer is 0 and nothing is written.
 pub fn place(frames: &[u8], words: &[u32], out: &mut [u32]) -> u32
-    requires { ⌜ Sendable (now frames) (now words) ⌝ }
-    requires { ⌜ length (now frames) ≤ length (now out) ⌝ }
-    ensures { λ r. ⌜ r ≡ batches (jobOf (now (frames .entry)) (now (words .entry))) ⌝ }
-    ensures { λ r. ⌜ now (out .exit) ≡ over (now (out .entry)) (slots (jobOf (now (frames .entry)) (now (words .entry)))) ⌝ }
+    ensures { λ r. ⌜ r ≡ batchesIn (now (frames .entry)) (now (words .entry)) (length (now (out .entry))) ⌝ }
+    ensures { λ r. ⌜ now (out .exit) ≡ over (now (out .entry)) (slotsIn (now (frames .entry)) (now (words .entry)) (length (now (out .entry)))) ⌝ }
 {
     let pages = frames.len();
+    if out.len() < pages {
+        return 0;
+    }
+    if !is_sendable(frames, words) {
+        return 0;
+    }
     place_exact(frames, words, &mut out[..pages])
 }

@@ -8,7 +8,7 @@ use native.Mathlib.Nat.{le-of-suc-le-suc, not-suc-le-zero}
 use native.Mathlib.Omega.{arith}
 use lib.Dec.{leb, eqb}
 use lib.ListN.{length, getD, take, drop, replicate, length-map, length-replicate, List·getD-append}
-use lib.Seq.{take-at}
+use lib.Seq.{take-at, length-take-le}
 use borrow.Author.Tests.{lt-ltb, le-ltb}
 use Rattle.base.specs.Lines.{split, lineAt}
 use Rattle.base.specs.Lists.{over, tab, padded}
@@ -23,8 +23,10 @@ use Rattle.job.specs.declared.JobAnswer.the-variants.{Accepted}
 use Rattle.job.specs.declared.Pages.{Pages}
 use Rattle.job.proofs.Accepted.{accepted-job}
 use Rattle.placement.specs.Placement as placement
-use Rattle.placement.specs.Placement.{Sendable, batches, slotOf, slots}
+use Rattle.placement.specs.Placement.{isSendable, batches, slotOf, slots, batchesIn, slotsIn}
 use Rattle.placement.proofs.Placed.{slots-length, slots-at}
+use Rattle.placement.proofs.Sendable.{of-sendable}
+use Rattle.placement.proofs.Placing.{batches-in, slots-in}
 use Rattle.transmission.specs.Sending.{Sending, sendingsOf, sendingAt, framesOf, countsOf, placementOf}
 use Rattle.transmission.specs.Transmission.{codewordsOf, transmissionOf}
 use Rattle.transmission.specs.Report.{sentInto}
@@ -127,21 +129,25 @@ module _ (s : List ℕ) (n : ℕ) (ok : jobOf s ≡ Accepted n) (pages : Pages) 
     groups-front : take n groups ≡ countsOf (sendingsOf s)
     groups-front = rw g counts-are
 
-    pub front-sendable : Sendable (take n frames) (take n groups)
-    front-sendable = rw (frames-front, groups-front) (sendable (accepted-sendings s n ok))
+    -- they are a job that can be sent, and there is room for it: placing it answers its batches and writes its slots
+    front-sendable : isSendable (take n frames) (take n groups) ≡ true
+    front-sendable = rw (frames-front, groups-front) (of-sendable (sendable (accepted-sendings s n ok)))
 
-    pub prepared : {b : ℕ} {places : List ℕ} → b ≡ batches (placement.jobOf (take n frames) (take n groups))
-        → places ≡ over (replicate 48 0) (slots (placement.jobOf (take n frames) (take n groups))) → Prepared s n groups places b
+    front-few : length (take n frames) ≤ 48
+    front-few = omega (arith, length-take-le n frames frames-long, accepted-job s n ok .most)
+
+    pub prepared : {b : ℕ} {places : List ℕ} → b ≡ batchesIn (take n frames) (take n groups) 48
+        → places ≡ over (replicate 48 0) (slotsIn (take n frames) (take n groups) 48) → Prepared s n groups places b
     prepared {b} {places} p q =
         let xs = sendingsOf s in
         let new = slots (placementOf xs) in
-        let all : places ≡ over (replicate 48 0) new = rw (frames-front, groups-front) at q in
+        let all : places ≡ over (replicate 48 0) new = rw (slots-in (take n frames) (take n groups) 48 front-sendable front-few, frames-front, groups-front) at q in
         let size : length new ≡ n = slots-length (placementOf xs) ∙ pages-are xs ∙ sendings-count s n ok in
         let most = accepted-job s n ok .most in
         let same = sendings-count s n ok in
         record {
           accepted = ok;
-          total = rw (frames-front, groups-front) at p;
+          total = rw (batches-in (take n frames) (take n groups) 48 front-sendable front-few, frames-front, groups-front) at p;
           counted = λ i h. rw g (tab-at (λ k. groupsOf (codingOf (getD (pages .kinds) k 0)) (getD (pages .counts) k 0)) 48 i 0 (omega arith) ∙ groups-are s n ok e i (omega arith));
           placed = λ i h. rw all (List·getD-append new _ 0 i (omega arith) ∙ slots-at (placementOf xs) i (omega (arith, pages-are xs)));
           front = rw all (take-at new _ n size);

@@ -14,8 +14,8 @@ use Rattle.job.specs.Pages.{pagesOf, noPage, pageAt}
 use Rattle.job.specs.Job.{jobOf}
 use Rattle.job.specs.declared.JobAnswer.the-variants.{Accepted}
 use Rattle.job.proofs.Accepted.{accepted-job}
-use Rattle.placement.specs.Placement.{Sendable}
 use Rattle.placement.specs.Promise.{Placed, Limits}
+use Rattle.placement.proofs.Sendable.{Sendable}
 use Rattle.placement.proofs.Placed.{placed, limits}
 use Rattle.transmission.specs.Sending.{Sending, noSending, sendingOf, sendingsOf, sendingAt, framesOf, countsOf, placementOf, Allowed, AllAllowed}
 

@@ -199,6 +199,19 @@ fn write_pages(
     }
 }
 
+// Numbers over the front of a slice that has room for them.
+fn copy_front(from: &[u32], to: &mut [u32])
+    requires { ⌜ length (now from) ≤ length (now to) ⌝ }
+    ensures { λ _. ⌜ now (to .exit) ≡ over (now (to .entry)) (now (from .entry)) ⌝ }
+{
+    let count = from.len();
+    let mut i = 0;
+    while i < count {
+        to[i] = from[i];
+        i += 1;
+    }
+}
+
 // The n pages of an accepted job into the two slices, or number 10. Nothing is written before both have room.
 fn send_pages(job: &[u8], pages: Pages, n: usize, words: &mut [u32], slots: &mut [u32]) -> Report
     requires { ⌜ pages ≡ readingOf (now job) ⌝ }
@@ -220,7 +233,7 @@ fn send_pages(job: &[u8], pages: Pages, n: usize, words: &mut [u32], slots: &mut
         return Report::NoRoom;
     }
     write_pages(job, pages, n, &groups, &places, &mut words[..room]);
-    base::copy_front(&places[..n], slots);
+    copy_front(&places[..n], slots);
     Report::Sent {
         batches: batches,
         words: count,

@@ -6,6 +6,7 @@ use lib.ListN.{replicate}
 use borrow.Author.Needs.{needs}
 use Rattle.placement.specs.Placement.{stateAt, jobOf}
 use Rattle.placement.proofs.Placed.{slots-marks}
+use Rattle.placement.proofs.Sendable.{sendable-of}
 use Rattle.placement.proofs.place_exact.Statement.{statement}
 use Rattle.placement.proofs.place_exact.Tie as tie
 
@@ -31,7 +32,7 @@ returns c =
       ran .ensures .0,
       c .before .before .unmark .ensures
           ∙ ap (map pred) (ran .ensures .1 ∙ ap (λ (r : ℕ). stateAt job (16 * r) .sent) (ran .ensures .0))
-          ∙ sym (slots-marks job (s .pre .0 .framed)),
+          ∙ sym (slots-marks job (sendable-of _ _ (s .pre .0) .framed)),
     )
 
 pub place-exact-spec : {M : Type 1} → statement M

@@ -14,6 +14,7 @@ use lib.ListN.{length, getD, set}
 use Rattle.placement.specs.Placement.{Job, State, Framed, frameOf, mayStart, ready, stateAt, jobOf, batches}
 use Rattle.placement.specs.declared.Start.{Start}
 use Rattle.placement.specs.declared.Start.the-variants.{Page, Idle}
+use Rattle.placement.proofs.Sendable.{Sendable, sendable-of}
 use Rattle.placement.proofs.Placed.{limits}
 use Rattle.placement.proofs.Steps.{at-start, At, Passed, Open, at-runs, at-starts, at-rests, marks-length, sent-few, asked, open-slot, goes-on, all-over}
 use Rattle.placement.proofs.Skips.{Skips, skips-start, skips-passed, skips-found, skips-more}
@@ -41,16 +42,19 @@ At-loop = tie.At-loop Inv-loop2 μ-loop2 Inv-loop μ-loop
 abbrev jobAt : At-loop → Job
 jobAt a = jobOf (a .before .before .before .before .args .frames .now) (a .before .before .before .before .args .words .now)
 
+sendable-at : (a : At-loop) → Sendable (a .before .before .before .before .args .frames .now) (a .before .before .before .before .args .words .now)
+sendable-at a = sendable-of _ _ (a .before .before .before .before .pre .0)
+
 framed-at : (a : At-loop) → Framed (jobAt a)
-framed-at a = a .before .before .before .before .pre .0 .framed
+framed-at a = sendable-at a .framed
 
 pages-at : (a : At-loop) → length (a .before .before .before .before .args .frames .now) ≤ 48
-pages-at a = a .before .before .before .before .pre .0 .few
+pages-at a = sendable-at a .few
 
 -- a slot that is reached is one of the batches, of which there are few
 slot-at : (a : At-loop) → a .loop .slot < 4800
 slot-at a =
-    limits (a .before .before .before .before .pre .0) .below (a .loop .slot)
+    limits (sendable-at a) .below (a .loop .slot)
     (open-slot (jobAt a) (framed-at a) (a .loop .slot) (a .loop .inv .2))
 
 -- the placement's state at the loop's head
@@ -172,7 +176,7 @@ mul-may-start-2 : tie.Need-mul-may-start-2 Inv-loop2 μ-loop2 Inv-loop μ-loop
 mul-may-start-2 c = omega (arith, pages-at (c .before .before .before .before .before))
 
 shared-slice-read-may-start-2 : tie.Need-shared-slice-read-may-start-2 Inv-loop2 μ-loop2 Inv-loop μ-loop
-shared-slice-read-may-start-2 c = omega (arith, c .before .before .before .before .before .before .before .before .before .before .pre .0 .paired)
+shared-slice-read-may-start-2 c = omega (arith, sendable-of _ _ (c .before .before .before .before .before .before .before .before .before .before .pre .0) .paired)
 
 may-start-requires : tie.Need-may-start-requires Inv-loop2 μ-loop2 Inv-loop μ-loop
 may-start-requires c κs = search needs
@@ -220,7 +224,7 @@ mul-left c = omega (arith, page-found (c .before) .0, pages-at (c .before .befor
 
 shared-slice-read-left : tie.Need-shared-slice-read-left Inv-loop2 μ-loop2 Inv-loop μ-loop
 shared-slice-read-left c =
-    omega (arith, page-found (c .before .before) .0, c .before .before .before .before .before .before .before .before .before .before .before .before .pre .0 .paired)
+    omega (arith, page-found (c .before .before) .0, sendable-of _ _ (c .before .before .before .before .before .before .before .before .before .before .before .before .pre .0) .paired)
 
 add-sent : tie.Need-add-sent Inv-loop2 μ-loop2 Inv-loop μ-loop
 add-sent c =

@@ -2,10 +2,9 @@
 use mathlib.Core.Path.{_≡_, refl, sym}
 use Prim.Native.Nat.{_+_, _*_, _≤_}
 use native.Mathlib.Omega.{arith}
-use Rattle.job.proofs.Accepted.{accepted-job}
 use lib.ListN.{length, take}
 use lib.Seq.{length-take-le}
-use Rattle.transmission.proofs.Prepared.{Prepared, few-characters, frames-long, groups-long, front-sendable, prepared, few-batches, plan, short-words, short-slots, enough, words-over, slots-over}
+use Rattle.transmission.proofs.Prepared.{Prepared, few-characters, frames-long, groups-long, prepared, few-batches, plan, short-words, short-slots, enough, words-over, slots-over}
 use borrow.Author.Needs.{needs}
 use Rattle.transmission.proofs.send_pages.Statement.{statement}
 use Rattle.transmission.proofs.send_pages.Tie as tie
@@ -53,11 +52,7 @@ slice-aggregate-place-3 : tie.Need-slice-aggregate-place-3
 slice-aggregate-place-3 c = search needs
 
 place-requires : tie.Need-place-requires
-place-requires c κs =
-    let from = c .before .before .before .before .before .before .before .before .before .before .before .before .before in (
-      front-sendable (from .args .job .now) (from .args .n) (from .pre .1) (from .args .t2) (from .pre .0) (c .before .before .before .before .before .before .before .frames-of .ensures) (c .before .before .before .group-counts .ensures),
-      omega (arith, length-take-le (from .args .n) (c .before .before .before .before .before .before .before .frames-of .result) (long-frames (c .before .before .before)), accepted-job (from .args .job .now) (from .args .n) (from .pre .1) .most),
-    )
+place-requires c κs = search needs
 
 mul-count : tie.Need-mul-count
 mul-count c = record { fits = omega (arith, few-batches (ready (c .before))) }
