@@ -16,8 +16,7 @@ use Rattle.job.specs.declared.JobAnswer.the-variants.{Accepted, Refused}
 use Rattle.listing.specs.Text.{textOf}
 use Rattle.listing.specs.Answers.{writingOf}
 use Rattle.listing.specs.declared.Writing.{Writing}
-use Rattle.listing.specs.declared.Writing.the-variants.{Bytes, Unwritten}
-use Rattle.listing.specs.declared.Fault.the-variants.{ShortBuffer}
+use Rattle.listing.specs.declared.Writing.the-variants as writing
 use Rattle.listing.proofs.TextLaws.{text-length}
 use Rattle.placement.specs.Placement.{batches}
 use Rattle.transmission.specs.Sending.{sendingsOf, placementOf}
@@ -33,13 +32,13 @@ use Rattle.job_listing.specs.declared.Listed.the-variants.{Written, Decl
 -- ---- writing words as text
 
 abbrev pub asListed : Writing → Listed
-asListed (Bytes n) = Written n
-asListed (Unwritten why) = NoRoom
+asListed (writing.Bytes n) = Written n
+asListed writing.NoRoom = NoRoom
 
 pub written-is : (ws : List ℕ) (room : ℕ) → asListed (writingOf ws room) ≡ writtenInto room (textOf ws)
 written-is ws room = rw (text-length 0 ws) (go (ltb room (9 * length ws)))
   where
-    go : (b : Bool) → asListed (cond b (Unwritten ShortBuffer) (Bytes (9 * length ws))) ≡ cond b NoRoom (Written (9 * length ws))
+    go : (b : Bool) → asListed (cond b writing.NoRoom (writing.Bytes (9 * length ws))) ≡ cond b NoRoom (Written (9 * length ws))
     go true = refl
     go false = refl
 

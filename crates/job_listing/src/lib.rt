@@ -89,6 +89,6 @@ fn write_front(words: &[u32], n: usize, out: &mut [u8]) -> Listed
     let answer = listing::write(&words[..n], out);
     match answer {
         Writing::Bytes(bytes) => Listed::Written(bytes),
-        Writing::Unwritten(_) => Listed::NoRoom,
+        Writing::NoRoom => Listed::NoRoom,
     }
 }

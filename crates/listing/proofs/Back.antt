@@ -13,7 +13,7 @@ use lib.Seq.{drop-cons, drop-drop, getD-drop, take-at}
 use Rattle.base.specs.Hex.{isHex}
 use Rattle.base.specs.Leading.{leading}
 use Rattle.base.specs.Lines.{split}
-use Rattle.base.specs.Lists.{over, tab}
+use Rattle.base.specs.Lists.{tab}
 use Rattle.base.proofs.Bools.{either, and-false}
 use Rattle.base.proofs.HexLaws.{digits-hex, digits-back}
 use Rattle.listing.specs.Text.{opensFrame, endOf, textOf}
@@ -25,7 +25,7 @@ use Rattle.listing.specs.declared.Listing.the-variants.{WellFormed}
 use Rattle.listing.specs.declared.Writing.the-variants.{Bytes}
 use Rattle.listing.proofs.FirstLine.{alone, pair, one-word, two-words}
 use Rattle.listing.proofs.BatchLaws.{lineBytes, frames-more, frames-stop, listing-long, batches-more, batches-end, whole-yes}
-use Rattle.listing.proofs.Indexed.{wordAt, wordsFrom, words-more, wordsBefore, words-indexed, read-words}
+use Rattle.listing.proofs.Indexed.{wordAt, wordsFrom, words-more, wordsBefore, words-indexed}
 use Rattle.listing.proofs.TextLaws.{text-length, text-digits, text-end}
 
 -- ---- what stands behind a word, by its place
@@ -171,8 +171,4 @@ read-back ws b t =
           (answer, rw answer (take-at text _ (9 * length ws) (text-length 0 ws)));
       form = form;
       batches = batches;
-      reading =
-          λ old room.
-          let answer = read-words text old 9 b form room in
-          (sym (answer .0), sym (answer .1) ∙ ap (over old) batches);
     }

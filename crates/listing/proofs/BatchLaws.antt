@@ -14,9 +14,9 @@ use Rattle.base.specs.Lines.{Lines, behind, line, split, lineAt}
 use Rattle.base.proofs.Bools.{either, and-true, and-false}
 use Rattle.base.proofs.LinesLaws.{none-left}
 use Rattle.listing.specs.Listing.{hasOne, hasTwo, framesIn, preambleOf, skip, isDue, isWhole, batches, listingOf}
-use Rattle.listing.specs.Words.{lineWords, wordsIn, batchWords, wordsOf, wordsMet, wordsDecoded}
+use Rattle.listing.specs.Words.{lineWords, wordsIn, batchWords, wordsOf}
 use Rattle.listing.specs.Formed.{Limits}
-use Rattle.listing.specs.Scan.{lineFrom}
+use Rattle.listing.specs.Scan.{lineFrom, wordsMet, wordsDecoded}
 use Rattle.listing.specs.declared.Fault.{Fault}
 use Rattle.listing.specs.declared.Fault.the-variants.{Malformed, TooMany}
 use Rattle.listing.specs.declared.Listing.{Listing}

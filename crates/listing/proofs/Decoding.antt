@@ -14,8 +14,8 @@ use Rattle.base.specs.Lists.{over}
 use Rattle.base.proofs.Bools.{either}
 use Rattle.base.proofs.ListLaws.{over-behind, over-length}
 use Rattle.listing.specs.Listing.{hasOne, isDue, batches}
-use Rattle.listing.specs.Words.{lineWords, wordsMet}
-use Rattle.listing.specs.Scan.{lineFrom, wordsIf}
+use Rattle.listing.specs.Words.{lineWords}
+use Rattle.listing.specs.Scan.{lineFrom, wordsIf, wordsMet}
 use Rattle.listing.proofs.FirstLine.{two-not-one}
 use Rattle.listing.proofs.BatchLaws.{lineBytes, due-inside, batches-more, met-more, met-stray, below-limit}
 use Rattle.listing.proofs.Indexed.{wordsBefore}

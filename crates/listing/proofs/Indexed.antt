@@ -5,24 +5,24 @@ use mathlib.Core.List.{List, [], _∷_}
 use mathlib.Core.Bool.{true, false}
 use mathlib.Core.Logic.{⊎-elim}
 use native.Mathlib.Omega.{arith}
-use borrow.Author.Tests.{eqb-true, eqb-false, lt-ltb, le-ltb}
+use borrow.Author.Tests.{eqb-true, eqb-false}
 use lib.Dec.{eqb}
-use lib.ListN.{length, take, drop}
-use lib.Seq.{take-take, drop-drop, length-take-le}
+use lib.ListN.{length, take, drop, replicate, length-append}
+use lib.Seq.{take-take, take-at, drop-drop, length-take-le}
 use Rattle.base.specs.Hex.{hexNumber}
 use Rattle.base.specs.Lines.{Lines, behind, line, split, lineAt}
-use Rattle.base.specs.Lists.{over, tab}
+use Rattle.base.specs.Lists.{over, tab, padded}
 use Rattle.base.proofs.Bools.{either}
-use Rattle.base.proofs.ListLaws.{drop-take, tab-length, tab-same}
+use Rattle.base.proofs.ListLaws.{drop-take, over-zeros, tab-length, tab-same}
 use Rattle.listing.specs.Listing.{hasOne, hasTwo, isDue, batches, listingOf}
-use Rattle.listing.specs.Words.{lineWords, wordsIn, wordsOf}
+use Rattle.listing.specs.Words.{lineWords, wordsIn, batchWords, wordsOf}
+use Rattle.listing.specs.Scan.{wordsDecoded}
 use Rattle.listing.specs.Formed.{Formed}
-use Rattle.listing.specs.Answers.{readingOf, wordsRead, afterRead}
+use Rattle.listing.specs.Answers.{decodedOf}
+use Rattle.listing.specs.declared.Decoded.{Decoded}
 use Rattle.listing.specs.declared.Fault.{Fault}
-use Rattle.listing.specs.declared.Fault.the-variants.{ShortBuffer}
+use Rattle.listing.specs.declared.Listing.{Listing}
 use Rattle.listing.specs.declared.Listing.the-variants.{WellFormed, Declined}
-use Rattle.listing.specs.declared.Reading.{Reading}
-use Rattle.listing.specs.declared.Reading.the-variants.{Words, Unread}
 use Rattle.listing.proofs.FirstLine.{alone, pair, alone-line, pair-line, pair-inside, one-word, two-words}
 use Rattle.listing.proofs.BatchLaws.{below-limit, line-formed, end-formed, batches-formed, listing-formed, listing-decoded}
 
@@ -113,23 +113,24 @@ words-indexed s p b e =
 
 pub formed : (s : List ℕ) (p b : ℕ) → listingOf s ≡ WellFormed p b → Formed s p b
 formed s p b e =
+    let words = wordsOf s in
+    let count : length words ≡ 17 * b = ap length (words-indexed s p b e) ∙ tab-length (λ i. wordAt s (2 * p + i)) (17 * b) in
     record {
       limits = listing-formed s p b e .0;
-      count = ap length (words-indexed s p b e) ∙ tab-length (λ i. wordAt s (2 * p + i)) (17 * b);
-      decoded = listing-decoded s p b e;
+      count = count;
+      inside = omega (arith, length-append words (replicate (5100 - length words) 0));
+      front = take-at words (replicate (5100 - length words) 0) (17 * b) count;
     }
 
--- ---- the answers of reading
+-- ---- what decoding returns
 
-module _ (s old : List ℕ) where
-  pub read-declined : (why : Fault) → listingOf s ≡ Declined why → (Unread why ≡ readingOf s (length old)) × (old ≡ afterRead s old)
-  read-declined why e = (rw e, rw e)
+abbrev decoded : Listing → List ℕ → Decoded
+decoded l words = record { listing = l; words = words }
 
-  module _ (p b : ℕ) (e : listingOf s ≡ WellFormed p b) where
-    pub read-short : length old < 17 * b → (Unread ShortBuffer ≡ readingOf s (length old)) × (old ≡ afterRead s old)
-    read-short h = let short = lt-ltb (length old) (17 * b) h in (rw (e, short), rw (e, short))
+module _ (s : List ℕ) {l : Listing} (e : l ≡ listingOf s) where
+  pub decoded-declined : {blank : List ℕ} {why : Fault} → blank ≡ replicate 5100 0 → l ≡ Declined why → decoded l blank ≡ decodedOf s
+  decoded-declined zeros f = ap₂ decoded e (zeros ∙ ap (λ (a : Listing). padded 5100 (batchWords s a)) (sym f ∙ e))
 
-    pub read-words : 17 * b ≤ length old → (Words (17 * b) ≡ readingOf s (length old)) × (over old (wordsOf s) ≡ afterRead s old)
-    read-words h =
-        let answer : Words (17 * b) ≡ readingOf s (length old) = rw (e, le-ltb (length old) (17 * b) h) in
-        (answer, ap (λ (a : Reading). over old (wordsRead s a)) answer)
+  pub decoded-formed : {blank words : List ℕ} {p b : ℕ} → blank ≡ replicate 5100 0 → words ≡ over blank (wordsDecoded s) → l ≡ WellFormed p b → decoded l words ≡ decodedOf s
+  decoded-formed {blank} {words} {p} {b} zeros written f =
+      ap₂ decoded e (written ∙ ap₂ over zeros (listing-decoded s p b (sym e ∙ f)) ∙ over-zeros 5100 (wordsOf s))

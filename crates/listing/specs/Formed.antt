@@ -2,8 +2,9 @@
 use Prim.Native.Nat.{ℕ, _*_, _≤_}
 use mathlib.Core.Path.{_≡_}
 use mathlib.Core.List.{List}
-use lib.ListN.{length}
-use Rattle.listing.specs.Words.{wordsOf, wordsDecoded}
+use lib.ListN.{length, take}
+use Rattle.listing.specs.Words.{wordsOf}
+use Rattle.listing.specs.Answers.{decodedOf}
 
 -- 9 to 36 preamble lines, and 1 to 300 batches
 pub record Limits (p b : ℕ) : Type 0 where
@@ -12,8 +13,9 @@ pub record Limits (p b : ℕ) : Type 0 where
   pub some : 1 ≤ b
   pub few : b ≤ 300
 
--- a listing with p preamble lines and b batches has 17 words a batch, and `decode` writes them all
+-- a listing with p preamble lines and b batches has 17 words a batch, and `decode` returns them first
 pub record Formed (s : List ℕ) (p b : ℕ) : Type 0 where
   pub limits : Limits p b
   pub count : length (wordsOf s) ≡ 17 * b
-  pub decoded : wordsDecoded s ≡ wordsOf s
+  pub inside : 17 * b ≤ length (decodedOf s .words)
+  pub front : take (17 * b) (decodedOf s .words) ≡ wordsOf s

@@ -3,13 +3,11 @@ use Prim.Native.Nat.{ℕ, _+_, _*_, _^_, _≤_, _<_}
 use mathlib.Core.List.{List}
 use mathlib.Core.Path.{_≡_}
 use lib.ListN.{length, getD, take, drop}
-use Rattle.base.specs.Lists.{over}
 use Rattle.listing.specs.Text.{textOf}
 use Rattle.listing.specs.Listing.{listingOf}
 use Rattle.listing.specs.Words.{wordsOf}
-use Rattle.listing.specs.Answers.{readingOf, afterRead, writingOf, afterWrite}
+use Rattle.listing.specs.Answers.{writingOf, afterWrite}
 use Rattle.listing.specs.declared.Listing.the-variants.{WellFormed}
-use Rattle.listing.specs.declared.Reading.the-variants.{Words}
 use Rattle.listing.specs.declared.Writing.the-variants.{Bytes}
 
 -- 18 words of preamble and 17 a batch, each below 2^32, whatever they are
@@ -19,7 +17,7 @@ pub record OfBatches (words : List ℕ) (b : ℕ) : Type 0 where
   pub few : b ≤ 300
   pub small : (k : ℕ) → getD words k 0 < 2 ^ 32
 
--- what the calls `write`, `decode` and `read` promise of such words, and of their text
+-- what the calls `write` and `decode` promise of such words, and of their text
 pub record ReadBack (words : List ℕ) (b : ℕ) : Type 0 where
   -- writing into a slice with room answers how many bytes the text has, and the slice then begins with them
   pub writing : (old : List ℕ) → 9 * length words ≤ length old
@@ -28,6 +26,3 @@ pub record ReadBack (words : List ℕ) (b : ℕ) : Type 0 where
   pub form : listingOf (textOf words) ≡ WellFormed 9 b
   -- the words of its batches are those behind the preamble
   pub batches : wordsOf (textOf words) ≡ drop 18 words
-  -- reading it into a slice with room answers how many they are and writes them
-  pub reading : (old : List ℕ) → 17 * b ≤ length old
-      → (readingOf (textOf words) (length old) ≡ Words (17 * b)) × (afterRead (textOf words) old ≡ over old (drop 18 words))

@@ -1,12 +1,11 @@
 -- The words of a listing (document 01, "Listings and reading").
-use Prim.Native.Nat.{ℕ, _+_}
+use Prim.Native.Nat.{ℕ}
 use mathlib.Core.List.{List, [], _∷_, _++_}
-use mathlib.Core.Bool.{cond, _&&_, not}
+use mathlib.Core.Bool.{cond}
 use lib.ListN.{take, drop}
-use lib.Dec.{ltb, eqb}
 use Rattle.base.specs.Hex.{hexNumber}
 use Rattle.base.specs.Lines.{Lines, behind, line, split}
-use Rattle.listing.specs.Listing.{hasOne, preambleOf, skip, isDue, listingOf}
+use Rattle.listing.specs.Listing.{hasOne, skip, listingOf}
 use Rattle.listing.specs.declared.Listing.{Listing}
 use Rattle.listing.specs.declared.Listing.the-variants.{WellFormed, Declined}
 
@@ -27,15 +26,3 @@ batchWords s (Declined why) = []
 -- the words of a listing's batches
 abbrev pub wordsOf : List ℕ → List ℕ
 wordsOf s = batchWords s (listingOf s)
-
--- behind q lines of batches, the words of the lines that are right, up to the first that is not
-unfoldable pub wordsMet : ℕ → Lines → List ℕ
-wordsMet q (behind t) = []
-wordsMet q (line l ls) = cond (isDue q l && not (eqb q 2700)) (lineWords l ++ wordsMet (q + 1) ls) []
-
--- the words that `decode` writes: those of the batches, up to the first line that is not right, behind p preamble lines, 9 at least
-abbrev pub metBehind : ℕ → Lines → List ℕ
-metBehind p ls = cond (ltb p 9) [] (wordsMet 0 (skip p ls))
-
-unfoldable pub wordsDecoded : List ℕ → List ℕ
-wordsDecoded s = metBehind (preambleOf (split s)) (split s)

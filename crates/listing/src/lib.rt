@@ -2,25 +2,22 @@
 ghost use mathlib.Core.Path.{_≡_};
 ghost use mathlib.Core.Bool.{cond};
 ghost use Prim.Native.Nat.{_*_, _≤_};
-ghost use lib.ListN.{length, drop};
+ghost use lib.ListN.{length, drop, replicate};
 ghost use Rattle.base.specs.Lines.{split};
 ghost use Rattle.base.specs.Lists.{over};
 ghost use Rattle.listing.specs.Text.{endOf};
 ghost use Rattle.listing.specs.Listing.{hasOne, hasTwo, preambleOf, isDue, batches, listingOf};
-ghost use Rattle.listing.specs.Words.{wordsMet, wordsDecoded};
-ghost use Rattle.listing.specs.Answers.{numberOf, placeOf, readingOf, afterRead, writingOf, afterWrite};
-ghost use Rattle.listing.specs.Scan.{lineFrom, wordsIf};
+ghost use Rattle.listing.specs.Answers.{numberOf, placeOf, decodedOf, writingOf, afterWrite};
+ghost use Rattle.listing.specs.Scan.{lineFrom, wordsIf, wordsMet, wordsDecoded};
 ghost use Rattle.listing.specs.declared.Fault.the-variants.{Malformed, TooMany};
 use base::HexWord;
 
-// Why a call is declined. A line is counted from 1.
+// Why a byte string is no listing. A line is counted from 1.
 pub enum Fault {
     // This line is malformed or has no newline, or the text ends before it.
     Malformed(usize),
     // With this line a 301st batch begins.
     TooMany(usize),
-    // The lent slice is shorter than the answer.
-    ShortBuffer,
 }
 
 // What a byte string is as a listing.
@@ -30,16 +27,18 @@ pub enum Listing {
     Declined(Fault),
 }
 
-pub enum Reading {
-    // How many words are written.
-    Words(usize),
-    Unread(Fault),
+// What a byte string is as a listing, and the words of its batches. Zeros stand behind them, and everywhere where it is declined.
+pub struct Decoded {
+    pub listing: Listing,
+    pub words: [u32; 5100],
 }
 
+// What writing a listing answers.
 pub enum Writing {
     // How many bytes are written.
     Bytes(usize),
-    Unwritten(Fault),
+    // The lent slice is shorter than the listing: number 10.
+    NoRoom,
 }
 
 // The number of a fault in the table.
@@ -49,7 +48,6 @@ pub fn number(why: Fault) -> u32
     match why {
         Fault::Malformed(_) => 21,
         Fault::TooMany(_) => 23,
-        Fault::ShortBuffer => 10,
     }
 }
 
@@ -60,7 +58,6 @@ pub fn place(why: Fault) -> usize
     match why {
         Fault::Malformed(line) => line,
         Fault::TooMany(line) => line,
-        Fault::ShortBuffer => 0,
     }
 }
 
@@ -188,9 +185,9 @@ fn read_batches(s: &[u8], p: usize, words: &mut [u32]) -> Listing
     }
 }
 
-// A listing's preamble lines and batches, or the fault of the first line that is not right. The batches' words are written over the
-// front of the array as they are read, also those before a fault: who calls this lends an array of its own. Each digit is read once.
-pub fn decode(s: &[u8], words: &mut [u32; 5100]) -> Listing
+// Reads a text as a listing. The words of the batches are written over the front of the array as they are read, also those before a
+// fault. Each digit is read once.
+fn read_text(s: &[u8], words: &mut [u32; 5100]) -> Listing
     ensures { λ r. ⌜ r ≡ listingOf (now (s .entry)) ⌝ }
     ensures { λ _. ⌜ now (words .exit) ≡ over (now (words .entry)) (wordsDecoded (now (s .entry))) ⌝ }
 {
@@ -202,31 +199,30 @@ pub fn decode(s: &[u8], words: &mut [u32; 5100]) -> Listing
 }
 
 // Room for the words of 300 batches.
-fn blank_words() -> [u32; 5100] {
+fn blank_words() -> [u32; 5100]
+    ensures { λ r. ⌜ r ≡ replicate 5100 0 ⌝ }
+{
     [0u32; 5100]
 }
 
-// Writes the words of a listing's batches, and answers how many they are. What stands behind them keeps its value. They are decoded
-// into an array of its own first: nothing may be written before the whole listing is known to be right.
-pub fn read(s: &[u8], words: &mut [u32]) -> Reading
-    ensures { λ r. ⌜ r ≡ readingOf (now (s .entry)) (length (now (words .entry))) ⌝ }
-    ensures { λ _. ⌜ now (words .exit) ≡ afterRead (now (s .entry)) (now (words .entry)) ⌝ }
+// A listing's preamble lines and batches with the batches' words, or the fault of the first line that is not right.
+pub fn decode(s: &[u8]) -> Decoded
+    ensures { λ r. ⌜ r ≡ decodedOf (now (s .entry)) ⌝ }
 {
-    let mut decoded = blank_words();
-    let l = decode(s, &mut decoded);
-    match l {
-        Listing::Declined(why) => Reading::Unread(why),
+    let mut words = blank_words();
+    let listing = read_text(s, &mut words);
+    match listing {
         Listing::WellFormed {
             preamble: _,
-            batches,
-        } => {
-            let n = 17 * batches;
-            if words.len() < n {
-                return Reading::Unread(Fault::ShortBuffer);
-            }
-            base::copy_front(&decoded[..n], words);
-            Reading::Words(n)
-        }
+            batches: _,
+        } => Decoded {
+            listing: listing,
+            words: words,
+        },
+        Listing::Declined(_) => Decoded {
+            listing: listing,
+            words: blank_words(),
+        },
     }
 }
 
@@ -252,7 +248,7 @@ pub fn write(words: &[u32], out: &mut [u8]) -> Writing
     ensures { λ _. ⌜ now (out .exit) ≡ afterWrite (now (words .entry)) (now (out .entry)) ⌝ }
 {
     if out.len() / 9 < words.len() {
-        return Writing::Unwritten(Fault::ShortBuffer);
+        return Writing::NoRoom;
     }
     let mut k = 0;
     while k < words.len() {

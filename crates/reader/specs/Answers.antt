@@ -51,7 +51,6 @@ readWords words room =
 abbrev pub faultOf : listing-fault-type.Fault → Fault
 faultOf (listing-fault.Malformed line) = Malformed line
 faultOf (listing-fault.TooMany line) = TooMany line
-faultOf listing-fault.ShortBuffer = NoRoom
 
 -- a listing: 21 or 23 as its lines have it, then 22 and 10 of its batches
 abbrev pub readFrom : Listing → List ℕ → ℕ → Reading

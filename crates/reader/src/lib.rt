@@ -525,11 +525,6 @@ pub fn read_words(engine: Engine, words: &[u32], out: &mut [u8]) -> Reading
     read_batches(engine, words, out)
 }
 
-// Room for the words of 300 batches.
-fn blank_words() -> [u32; 5100] {
-    [0u32; 5100]
-}
-
 // A listing's fault as this crate's.
 fn fault_of(why: listing::Fault) -> Fault
     ensures { λ r. ⌜ r ≡ faultOf why ⌝ }
@@ -537,7 +532,6 @@ fn fault_of(why: listing::Fault) -> Fault
     match why {
         listing::Fault::Malformed(line) => Fault::Malformed(line),
         listing::Fault::TooMany(line) => Fault::TooMany(line),
-        listing::Fault::ShortBuffer => Fault::NoRoom,
     }
 }
 
@@ -546,8 +540,9 @@ pub fn read_listing(engine: Engine, listing: &[u8], out: &mut [u8]) -> Reading
     ensures { λ r. ⌜ r ≡ readListing (now (listing .entry)) (length (now (out .entry))) ⌝ }
     ensures { λ r. ⌜ now (out .exit) ≡ over (now (out .entry)) (linesRead r (wordsOf (now (listing .entry)))) ⌝ }
 {
-    let mut words = blank_words();
-    let l = listing::decode(listing, &mut words);
+    let decoded = listing::decode(listing);
+    let words = decoded.words;
+    let l = decoded.listing;
     match l {
         listing::Listing::WellFormed {
             preamble: _,

@@ -11,18 +11,11 @@ enum-known-why c = search needs
 enum-known-why-2 : tie.Need-enum-known-why-2
 enum-known-why-2 c = search needs
 
-enum-told : tie.Need-enum-told
-enum-told c = search needs
-
 returns : tie.Need-returns
 returns c = sym (ap faultOf (c .before .why .given .1))
 
 returns-2 : tie.Need-returns-2
 returns-2 c = sym (ap faultOf (c .before .why2 .given .1))
 
-returns-3 : tie.Need-returns-3
-returns-3 c = search needs
-
 pub fault-of-spec : {M : Type 1} → statement M
-fault-of-spec =
-    tie.close (tie.spec enum-known-why enum-known-why-2 enum-told returns returns-2 returns-3)
+fault-of-spec = tie.close (tie.spec enum-known-why enum-known-why-2 returns returns-2)

@@ -11,11 +11,12 @@ use Rattle.base.specs.Lists.{over}
 use Rattle.listing.specs.Listing.{listingOf}
 use Rattle.listing.specs.Words.{wordsOf}
 use Rattle.listing.specs.Formed.{Formed}
+use Rattle.listing.specs.Answers.{decodedOf}
+use Rattle.listing.specs.declared.Decoded.{Decoded}
 use Rattle.listing.specs.declared.Listing.the-variants.{WellFormed}
 use Rattle.listing.proofs.Indexed.{formed}
 use Rattle.reader.specs.Answers.{readBatches, linesRead}
 use Rattle.reader.specs.declared.Reading.the-variants.{Declined}
-use Rattle.reader.proofs.OverLaws.{front-inside, front-is}
 use Rattle.reader.proofs.AnswerLaws.{listing-read, listing-declined}
 use Rattle.reader.proofs.read_listing.Statement.{statement}
 use Rattle.reader.proofs.read_listing.Tie as tie
@@ -23,7 +24,7 @@ use Rattle.reader.proofs.read_listing.Tie as tie
 -- a listing that is well formed
 module _ (c : tie.After-l) where
   abbrev start : tie.Start
-  start = c .before .before .before .before .before .before .before
+  start = c .before .before .before .before .before .before
 
   abbrev text : List ℕ
   text = now (start .args .listing)
@@ -34,30 +35,24 @@ module _ (c : tie.After-l) where
   abbrev b : ℕ
   b = c .l .given .0 .1 .0
 
-  -- the room for its words, and what is decoded there
-  abbrev blank : List ℕ
-  blank = c .before .before .before .before .blank-words .result
+  -- what is decoded
+  abbrev decoded : Decoded
+  decoded = c .before .before .before .decode .result
 
-  abbrev decoded : List ℕ
-  decoded = c .before .before .decode .last .1 .0
+  same : decoded ≡ decodedOf text
+  same = c .before .before .before .decode .ensures
 
   form : listingOf text ≡ WellFormed p b
-  form = sym (c .before .before .decode .ensures .0) ∙ c .l .given .1
+  form = sym (ap (λ (d : Decoded). d .listing) same) ∙ c .l .given .1
 
   there : Formed text p b
   there = formed text p b form
 
-  written : decoded ≡ over blank (wordsOf text)
-  written = c .before .before .decode .ensures .1 ∙ ap (over blank) (there .decoded)
+  inside : 17 * b ≤ length (decoded .words)
+  inside = omega (arith, there .inside, ap (λ (d : Decoded). length (d .words)) same)
 
-  inside : 17 * b ≤ length decoded
-  inside = front-inside blank (wordsOf text) (17 * b) (sym (there .count)) written
-
-  words : take (17 * b) decoded ≡ wordsOf text
-  words = front-is blank (wordsOf text) (17 * b) (sym (there .count)) written
-
-blank-words-requires : tie.Need-blank-words-requires
-blank-words-requires c κs = search needs
+  words : take (17 * b) (decoded .words) ≡ wordsOf text
+  words = ap (λ (d : Decoded). take (17 * b) (d .words)) same ∙ there .front
 
 decode-requires : tie.Need-decode-requires
 decode-requires c κs = search needs
@@ -72,7 +67,7 @@ array-share-prefix-words : tie.Need-array-share-prefix-words
 array-share-prefix-words c = inside (c .before)
 
 slice-aggregate-read-batches : tie.Need-slice-aggregate-read-batches
-slice-aggregate-read-batches c = let at = c .before .before in sym (length-take-le (17 * b at) (decoded at) (inside at))
+slice-aggregate-read-batches c = let at = c .before .before in sym (length-take-le (17 * b at) (decoded at .words) (inside at))
 
 read-batches-requires : tie.Need-read-batches-requires
 read-batches-requires c κs = let at = c .before .before .before in omega (arith, ap length (words at), there at .count, there at .limits .few)
@@ -98,15 +93,15 @@ returns c =
 returns-2 : tie.Need-returns-2
 returns-2 c =
     let at = c .before .before in
-    let a = at .before .before .before .before .before .before .before .args in
-    let declined = listing-declined (now (a .listing)) (length (now (a .out))) _ (sym (at .before .before .decode .ensures .0) ∙ at .l2 .given .1) in
+    let a = at .before .before .before .before .before .before .args in
+    let same = at .before .before .before .decode .ensures in
+    let declined = listing-declined (now (a .listing)) (length (now (a .out))) _ (sym (ap (λ (d : Decoded). d .listing) same) ∙ at .l2 .given .1) in
     (ap Declined (c .fault-of .ensures) ∙ declined, refl)
 
 pub read-listing-spec : {M : Type 1} → statement M
 read-listing-spec =
     tie.close
     (tie.spec
-    blank-words-requires
     decode-requires
     enum-known-l
     mul-n
