@@ -38,13 +38,7 @@ pub record Sendable (frames words : List ℕ) : Type 0 where
   pub short : messages (jobOf frames words) ≤ 4032
   pub paired : length words ≡ length frames
 
--- ---- demand 3's two bounds
-
--- the last slot that the k-th address can have, where m message codewords go out before it
-abbrev pub latest : ℕ → ℕ → ℕ
-latest k m = 16 * k - 2 + m
-
--- the slot from which on all is out, for n pages and m message codewords: one more than its sixteenth part is the most batches
+-- the slot from which on all is out, for n pages and m message codewords: one more than its sixteenth part is demand 3's bound on batches
 abbrev pub slotBound : Job → ℕ
 slotBound job = 16 * job .pages + messages job - 1
 
