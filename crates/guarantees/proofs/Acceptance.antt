@@ -22,7 +22,7 @@ use Rattle.transmission.specs.declared.Report.{Report}
 use Rattle.transmission.specs.declared.Report.the-variants.{Sent, Declined, NoRoom}
 use Rattle.transmission.proofs.ReportLaws.{report-accepted}
 use Rattle.transmission.proofs.Sendings.{accepted-sendings, sendings-limits}
-use Rattle.sender.specs.Start.{startedOf}
+use Rattle.sender.proofs.Stepping.{start-is}
 use Rattle.guarantees.specs.Demand3.{OnlyRoom, Acceptance}
 
 -- the numbers of a refused job are 1 to 9
@@ -76,10 +76,6 @@ module _ (s : List ℕ) where
           le-ltb slots (length (sendingsOf s)) (omega arith),
         )
 
-  same-answer : startedOf s .answer ≡ jobOf s
-  unfolding startedOf
-  same-answer = refl
-
   pub acceptance : Acceptance s
   acceptance =
       record {
@@ -87,5 +83,5 @@ module _ (s : List ℕ) where
         undeclined = only-room;
         reports = λ words slots. by-report (reportOf s words slots);
         enough = λ n ok words slots h l. room-enough n ok words slots (omega arith) (omega arith);
-        started = same-answer;
+        started = λ a t c. start-is s a t c .0;
       }

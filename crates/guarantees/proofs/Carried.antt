@@ -1,10 +1,10 @@
 -- What a call of `send` that reports leaves in the two lent slices. Assumes nothing.
 use mathlib.Core.Path.{_≡_, refl, sym, ap, _∙_}
 use mathlib.Core.Bool.{cond}
-use mathlib.Core.List.{List, _++_, map}
+use mathlib.Core.List.{List}
 use Prim.Native.Nat.{ℕ, _+_, _*_, _≤_, _<_}
 use native.Mathlib.Omega.{arith}
-use lib.ListN.{length, getD, take, drop, replicate, List·getD-append}
+use lib.ListN.{length, getD, take, drop, List·getD-append}
 use lib.Seq.{take-at}
 use lib.Dec.{eqb, ltb}
 use Rattle.base.specs.Lists.{over}
@@ -24,7 +24,6 @@ use Rattle.transmission.specs.declared.Report.the-variants.{Sent}
 use Rattle.transmission.proofs.Sendings.{sending-at, words-at, sendings-placed, sendings-count, accepted-sendings}
 use Rattle.transmission.proofs.TransmissionLaws.{transmission-length, transmission-at}
 use Rattle.transmission.proofs.Transmitted.{transmitted}
-use Rattle.sender.specs.declared.Answer.the-variants.{Word, Done}
 use Rattle.sender.proofs.Stepping.{job-stepping}
 use Rattle.guarantees.specs.Demand3.{Call, page, count, slot, wordIn, InTime, AsPlaced, InWords, Carried}
 use Rattle.guarantees.proofs.Counts.{groups-count, sent-count, page-count}
@@ -187,5 +186,5 @@ module _ (s : List ℕ) (n : ℕ) (ok : jobOf s ≡ Accepted n) where
           paused = λ i j li lj mi mj e.
               placed .paused i j (in-pages li) (in-pages lj) (omega (arith, word-count i li)) (omega (arith, word-count j lj))
               (omega (arith, slot-at i li, slot-at j lj, word-count i li));
-          steps = λ k. job-stepping s n ok .words-then-done k ∙ ap (λ (x : List ℕ). take k (map Word x ++ replicate k Done)) (sym words-front);
+          steps = λ u c. rw words-front (job-stepping s n u c);
         }

@@ -2,16 +2,17 @@
 -- the card's words; the steps give the same words. `demand3` in proofs/Demand3.antt proves it of every job.
 use mathlib.Core.Path.{_≡_}
 use mathlib.Core.Bool.{true, false, cond}
-use mathlib.Core.List.{List, _++_, map}
+use mathlib.Core.List.{List}
 use mathlib.Core.Logic.{_⊎_}
 use Prim.Native.Nat.{ℕ, _+_, _-_, _*_, _/_, _≤_, _<_}
-use lib.ListN.{length, getD, take, replicate}
+use lib.ListN.{length, getD, take}
 use lib.Dec.{eqb, leb}
 use Rattle.base.specs.Lists.{over}
 use Rattle.base.specs.Search.{sum}
 use Rattle.codeword.specs.Code as code
 use Rattle.job.specs.Pages.{pageAt}
 use Rattle.job.specs.Job.{jobOf}
+use Rattle.job.specs.declared.JobAnswer.{JobAnswer}
 use Rattle.job.specs.declared.JobAnswer.the-variants.{Accepted}
 use Rattle.placement.specs.Placement.{address, contentAt, endsWith, batches, slots}
 use Rattle.placement.specs.Promise.{earlier, GoesOut}
@@ -21,9 +22,8 @@ use Rattle.transmission.specs.Transmitted.{slotIndex, isAddress, addressesTo}
 use Rattle.transmission.specs.Report.{reportOf, wordsSent, slotsSent, numberOf}
 use Rattle.transmission.specs.declared.Report.{Report}
 use Rattle.transmission.specs.declared.Report.the-variants.{Sent}
-use Rattle.sender.specs.declared.Answer.the-variants.{Word, Done}
-use Rattle.sender.specs.Start.{startedOf}
-use Rattle.sender.specs.Stepping.{answers, Stepping}
+use Rattle.sender.specs.declared.Sender.{Sender}
+use Rattle.sender.specs.Stepping.{StartCall, Stepping}
 
 -- ---- accepted jobs
 
@@ -40,7 +40,7 @@ pub record Acceptance (s : List ℕ) : Type 0 where
   -- room for 300 batches and 48 pages is enough for every accepted job
   pub enough : (n : ℕ) → jobOf s ≡ Accepted n → (words slots : ℕ) → 5118 ≤ words → 48 ≤ slots → numberOf (reportOf s words slots) ≡ 0
   -- starting the steps accepts the same jobs
-  pub started : startedOf s .answer ≡ jobOf s
+  pub started : (a : JobAnswer) (t : Sender) → StartCall s a t → a ≡ jobOf s
 
 -- ---- a call of `send`
 
@@ -116,15 +116,14 @@ pub record InWords (s : List ℕ) (n b m : ℕ) (w t : List ℕ) : Type 0 where
   -- sync stands in the words once for each reported batch
   pub syncs : sum (λ k. cond (eqb (getD w k 0) code.sync) 1 0) m ≡ b
 
--- all of that; the pause after a message (R-3); and any number k of steps answers these very words, the first k of them, with nothing
--- but done behind the last
+-- all of that; the pause after a message (R-3); and every list of steps of the same job answers these very words, and then done
 pub record Carried (s : List ℕ) (n b m : ℕ) (w t : List ℕ) : Type 0 where
   pub in-time : InTime s n b t
   pub as-placed : AsPlaced s n b m w t
   pub in-words : InWords s n b m w t
   -- a page with a message doesn't start in the slot directly behind another page's message
   pub paused : (i j : ℕ) → i < n → j < n → 0 < count s i → 0 < count s j → slot t j ≡ slot t i + count s i + 1 → ⊥
-  pub steps : (k : ℕ) → answers k (startedOf s .state) ≡ take k (map Word (take m w) ++ replicate k Done)
+  pub steps : (u : Sender) → StartCall s (Accepted n) u → Stepping (take m w) u
 
 -- ---- demand 3 of a job, whatever its bytes are
 
@@ -132,6 +131,6 @@ pub record Demand3 (s : List ℕ) : Type 0 where
   pub acceptance : Acceptance s
   -- every call of `send` that reports b batches and m words
   pub sending : (w₀ t₀ w t : List ℕ) (b m : ℕ) → Call s w₀ t₀ (Sent b m) w t → (n : ℕ) × (jobOf s ≡ Accepted n) × Carried s n b m w t
-  -- every list of steps, by value or in place, from the state that the job gives if it is accepted: none is declined, the answers are
-  -- the card's words and then done, and a step behind the last word alters nothing
-  pub stepping : (n : ℕ) → jobOf s ≡ Accepted n → Stepping (sendingsOf s) (startedOf s .state)
+  -- every list of steps, in place or by value, from the state that a start gives which accepts the job: none is declined, the answers
+  -- are the card's words and then done, and a step behind the last word alters nothing
+  pub stepping : (n : ℕ) (u : Sender) → StartCall s (Accepted n) u → Stepping (transmissionOf (sendingsOf s)) u
