@@ -26,7 +26,7 @@ use Rattle.sender.proofs.Stepping.{start-is}
 use Rattle.guarantees.specs.Demand3.{OnlyRoom, Acceptance}
 
 -- the numbers of a refused job are 1 to 9
-refused-number : (why : Refusal) → (1 ≤ refusal.numberOf why) × (refusal.numberOf why ≤ 9)
+pub refused-number : (why : Refusal) → (1 ≤ refusal.numberOf why) × (refusal.numberOf why ≤ 9)
 refused-number Malformed = (omega arith, omega arith)
 refused-number IdentityRange = (omega arith, omega arith)
 refused-number IdentityReserved = (omega arith, omega arith)

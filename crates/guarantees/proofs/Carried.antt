@@ -30,7 +30,7 @@ use Rattle.guarantees.proofs.Counts.{groups-count, sent-count, page-cou
 use Rattle.guarantees.proofs.Reported.{Reported, reported}
 
 -- what is written over the front of a slice that has room for it stands in the slice
-front-fits : (old new : List ℕ) {n : ℕ} → length new ≡ n → n ≤ length old → n ≤ length (over old new)
+pub front-fits : (old new : List ℕ) {n : ℕ} → length new ≡ n → n ≤ length old → n ≤ length (over old new)
 front-fits old new e h = omega (arith, over-length old new (omega arith))
 
 module _ (s : List ℕ) (n : ℕ) (ok : jobOf s ≡ Accepted n) where
