@@ -1,11 +1,10 @@
-// What every floor of the library stands on: upper-case hexadecimal digits both ways, lines, and numbers copied.
+// What every floor of the library stands on: upper-case hexadecimal digits both ways, and lines.
 ghost use mathlib.Core.Path.{_≡_};
-ghost use Prim.Native.Nat.{_%_, _^_, _≤_};
+ghost use Prim.Native.Nat.{_%_, _^_};
 ghost use lib.ListN.{length, getD};
 ghost use Rattle.base.specs.Hex.{isHex, hexOf, digitValue, digitOf, hexNumber, hexWord, digitsOf, bytesOf};
 ghost use Rattle.base.specs.Leading.{leading};
 ghost use Rattle.base.specs.Lines.{lineEnd};
-ghost use Rattle.base.specs.Lists.{over};
 
 // What a slice of bytes writes.
 pub enum HexWord {
@@ -146,17 +145,4 @@ pub fn line_end(s: &[u8], at: usize) -> usize
         i += 1;
     }
     i
-}
-
-// Numbers over the front of a slice that has room for them.
-pub fn copy_front(from: &[u32], to: &mut [u32])
-    requires { ⌜ length (now from) ≤ length (now to) ⌝ }
-    ensures { λ _. ⌜ now (to .exit) ≡ over (now (to .entry)) (now (from .entry)) ⌝ }
-{
-    let count = from.len();
-    let mut i = 0;
-    while i < count {
-        to[i] = from[i];
-        i += 1;
-    }
 }

@@ -11,33 +11,19 @@ use borrow.Author.Tests.{le-ltb}
 use Rattle.job.specs.Job.{jobOf}
 use Rattle.job.specs.Refusal as refusal
 use Rattle.job.specs.declared.Refusal.{Refusal}
-use Rattle.job.specs.declared.Refusal.the-variants.{Malformed, IdentityRange, IdentityReserved, UnknownKind, ToneWithText, TextMissing, TextTooLong, Character, TrailingSpace, TooManyLines, EmptyJob}
 use Rattle.job.specs.declared.JobAnswer.{JobAnswer}
 use Rattle.job.specs.declared.JobAnswer.the-variants.{Accepted, Refused}
 use Rattle.placement.specs.Placement.{batches}
 use Rattle.transmission.specs.Sending.{Sending, sendingsOf, placementOf}
 use Rattle.transmission.specs.Transmission.{wordCount}
+use Rattle.job.proofs.RefusalLaws.{refused-number}
 use Rattle.transmission.specs.Report.{answered, reportOf, numberOf}
 use Rattle.transmission.specs.declared.Report.{Report}
 use Rattle.transmission.specs.declared.Report.the-variants.{Sent, Declined, NoRoom}
 use Rattle.transmission.proofs.ReportLaws.{report-accepted}
 use Rattle.transmission.proofs.Sendings.{accepted-sendings, sendings-limits}
-use Rattle.sender.specs.Start.{startedOf}
+use Rattle.sender.proofs.Stepping.{start-is}
 use Rattle.guarantees.specs.Demand3.{OnlyRoom, Acceptance}
-
--- the numbers of a refused job are 1 to 9
-refused-number : (why : Refusal) → (1 ≤ refusal.numberOf why) × (refusal.numberOf why ≤ 9)
-refused-number Malformed = (omega arith, omega arith)
-refused-number IdentityRange = (omega arith, omega arith)
-refused-number IdentityReserved = (omega arith, omega arith)
-refused-number UnknownKind = (omega arith, omega arith)
-refused-number ToneWithText = (omega arith, omega arith)
-refused-number TextMissing = (omega arith, omega arith)
-refused-number TextTooLong = (omega arith, omega arith)
-refused-number Character = (omega arith, omega arith)
-refused-number TrailingSpace = (omega arith, omega arith)
-refused-number TooManyLines = (omega arith, omega arith)
-refused-number EmptyJob = (omega arith, omega arith)
 
 by-number : (a : JobAnswer) (xs : List Sending) (words slots : ℕ) → OnlyRoom (answered a xs words slots) → (n : ℕ) × (a ≡ Accepted n)
 by-number (Accepted n) xs words slots h = (n, refl)
@@ -76,10 +62,6 @@ module _ (s : List ℕ) where
           le-ltb slots (length (sendingsOf s)) (omega arith),
         )
 
-  same-answer : startedOf s .answer ≡ jobOf s
-  unfolding startedOf
-  same-answer = refl
-
   pub acceptance : Acceptance s
   acceptance =
       record {
@@ -87,5 +69,5 @@ module _ (s : List ℕ) where
         undeclined = only-room;
         reports = λ words slots. by-report (reportOf s words slots);
         enough = λ n ok words slots h l. room-enough n ok words slots (omega arith) (omega arith);
-        started = same-answer;
+        started = λ a t c. start-is s a t c .0;
       }

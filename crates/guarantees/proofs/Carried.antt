@@ -1,10 +1,10 @@
 -- What a call of `send` that reports leaves in the two lent slices. Assumes nothing.
 use mathlib.Core.Path.{_≡_, refl, sym, ap, _∙_}
 use mathlib.Core.Bool.{cond}
-use mathlib.Core.List.{List, _++_, map}
+use mathlib.Core.List.{List}
 use Prim.Native.Nat.{ℕ, _+_, _*_, _≤_, _<_}
 use native.Mathlib.Omega.{arith}
-use lib.ListN.{length, getD, take, drop, replicate, List·getD-append}
+use lib.ListN.{length, getD, take, drop, List·getD-append}
 use lib.Seq.{take-at}
 use lib.Dec.{eqb, ltb}
 use Rattle.base.specs.Lists.{over}
@@ -15,23 +15,22 @@ use Rattle.codeword.specs.Code as code
 use Rattle.job.specs.Job.{jobOf}
 use Rattle.job.specs.declared.JobAnswer.the-variants.{Accepted}
 use Rattle.placement.specs.Placement.{Job, contentAt, slotOf, slots}
-use Rattle.placement.specs.Promise.{Placed, before}
+use Rattle.placement.specs.Promise.{Placed, earlier}
 use Rattle.placement.proofs.Placed.{slots-length, slots-at}
 use Rattle.transmission.specs.Sending.{Sending, sendingsOf, placementOf}
 use Rattle.transmission.specs.Transmission.{Codewords, codewordsOf, addressOf, messageOf, wordAt, transmissionOf}
-use Rattle.transmission.specs.Transmitted.{slotIndex, slotWord, isAddress, Transmitted}
+use Rattle.transmission.specs.Transmitted.{slotIndex, slotWord, isAddress, addressesTo, Transmitted}
 use Rattle.transmission.specs.declared.Report.the-variants.{Sent}
 use Rattle.transmission.proofs.Sendings.{sending-at, words-at, sendings-placed, sendings-count, accepted-sendings}
 use Rattle.transmission.proofs.TransmissionLaws.{transmission-length, transmission-at}
 use Rattle.transmission.proofs.Transmitted.{transmitted}
-use Rattle.sender.specs.declared.Answer.the-variants.{Word, Done}
 use Rattle.sender.proofs.Stepping.{job-stepping}
-use Rattle.guarantees.specs.Demand3.{Call, page, count, slot, wordIn, earlier, InTime, AsPlaced, InWords, Carried}
+use Rattle.guarantees.specs.Demand3.{Call, page, count, slot, wordIn, InTime, AsPlaced, InWords, Carried}
 use Rattle.guarantees.proofs.Counts.{groups-count, sent-count, page-count}
 use Rattle.guarantees.proofs.Reported.{Reported, reported}
 
 -- what is written over the front of a slice that has room for it stands in the slice
-front-fits : (old new : List ℕ) {n : ℕ} → length new ≡ n → n ≤ length old → n ≤ length (over old new)
+pub front-fits : (old new : List ℕ) {n : ℕ} → length new ≡ n → n ≤ length old → n ≤ length (over old new)
 front-fits old new e h = omega (arith, over-length old new (omega arith))
 
 module _ (s : List ℕ) (n : ℕ) (ok : jobOf s ≡ Accepted n) where
@@ -75,16 +74,16 @@ module _ (s : List ℕ) (n : ℕ) (ok : jobOf s ≡ Accepted n) where
     word-in : (p : ℕ) → p < 16 * b → wordIn w p ≡ slotWord codewords job p
     word-in p l = word-at (slotIndex p) (omega (arith, says .words-are, says .batches-are))
 
-    earlier-is : (f g : ℕ → ℕ) → ((j : ℕ) → j < n → f j ≡ g j) → (i : ℕ) → i < n → earlier t n f i ≡ before job g i
-    unfolding earlier before
+    earlier-is : (f g : ℕ → ℕ) → ((j : ℕ) → j < n → f j ≡ g j) → (i : ℕ) → i < n → earlier (slot t) n f i ≡ earlier (slotOf job) (job .pages) g i
+    unfolding earlier
     earlier-is f g e i l =
         sum-cong _ _ n (λ j h. rw (slot-at j h, slot-at i l, e j h))
         ∙ ap (sum (λ j. cond (ltb (slotOf job j) (slotOf job i)) (g j) 0)) (sym (page-count s n ok))
 
-    before-ones : (i : ℕ) → i < n → earlier t n (λ _. 1) i ≡ before job (λ _. 1) i
+    before-ones : (i : ℕ) → i < n → earlier (slot t) n (λ _. 1) i ≡ earlier (slotOf job) (job .pages) (λ _. 1) i
     before-ones i l = earlier-is (λ _. 1) (λ _. 1) (λ _ _. refl) i l
 
-    before-counts : (i : ℕ) → i < n → earlier t n (count s) i ≡ before job (job .words) i
+    before-counts : (i : ℕ) → i < n → earlier (slot t) n (count s) i ≡ earlier (slotOf job) (job .pages) (job .words) i
     before-counts i l = earlier-is (count s) (job .words) (λ j h. sym (word-count j h)) i l
 
     in-pages : {i : ℕ} → i < n → i < job .pages
@@ -114,6 +113,14 @@ module _ (s : List ℕ) (n : ℕ) (ok : jobOf s ≡ Accepted n) where
         ∙ sent .itsMessage i j (in-pages l) (omega (arith, word-count i l))
         ∙ ap (λ (x : Sending). messageOf x j) (sending-at s i)
 
+    -- the addresses in the words before the slot that is reported for a page
+    turn : (i : ℕ) → i < n → addressesTo (wordIn w) (slot t i) ≡ earlier (slot t) n (λ _. 1) i
+    turn i l =
+        sum-cong _ _ (slot t i) (λ p h. rw (word-in p (omega (arith, inside i l))))
+        ∙ ap (addressesTo (slotWord codewords job)) (slot-at i l)
+        ∙ sent .inTurn i (in-pages l)
+        ∙ sym (before-ones i l)
+
     sync-count : sum (λ k. cond (eqb (getD w k 0) code.sync) 1 0) m ≡ b
     sync-count =
         sum-cong _ _ m (λ k l. rw (word-at k l))
@@ -132,9 +139,7 @@ module _ (s : List ℕ) (n : ℕ) (ok : jobOf s ≡ Accepted n) where
               placed .one k i j (in-pages li) (in-pages lj) (omega (arith, before-ones i li)) (omega (arith, before-ones j lj));
           in-time = λ k i l e.
               omega (arith, slot-at i l, before-counts i l, placed .kth k i (in-pages l) (omega (arith, before-ones i l)));
-          few = omega (arith, says .batches-are, placed .few);
-          pages = page-count s n ok;
-          codewords = all-codewords;
+          few = omega (arith, says .batches-are, placed .few, page-count s n ok, all-codewords);
         }
 
     as-placed : AsPlaced s n b m w t
@@ -143,6 +148,8 @@ module _ (s : List ℕ) (n : ℕ) (ok : jobOf s ≡ Accepted n) where
           batches-are = says .batches-are;
           slots-are = slots-front;
           placed = λ i l. ap (contentAt job) (slot-at i l) ∙ placed .sent i (in-pages l);
+          ended = rw (says .batches-are) (placed .ended);
+          soonest = λ q l. placed .soonest q (omega (arith, says .batches-are));
           words-are = omega (arith, says .words-are, says .batches-are);
           card = words-front;
           words-fit = rw (call .words) (front-fits w₀ (transmissionOf (sendingsOf s)) words-size (omega (arith, says .words-are, says .word-room)));
@@ -158,6 +165,7 @@ module _ (s : List ℕ) (n : ℕ) (ok : jobOf s ≡ Accepted n) where
               (x .0, lx, x .2 ∙ sym (slot-at (x .0) lx));
           addressed = λ i l. ap isAddress (first-word i l) ∙ sent .itsAddress i (in-pages l) .1;
           its-address = λ i l. first-word i l ∙ sent .itsAddress i (in-pages l) .0 ∙ ap addressOf (sending-at s i);
+          in-turn = λ k i l e. ap (λ (y : ℕ). y + 1) (turn i l) ∙ e;
           counted = groups-count s n ok;
           its-message = messages-behind;
           inside = inside;
@@ -178,5 +186,5 @@ module _ (s : List ℕ) (n : ℕ) (ok : jobOf s ≡ Accepted n) where
           paused = λ i j li lj mi mj e.
               placed .paused i j (in-pages li) (in-pages lj) (omega (arith, word-count i li)) (omega (arith, word-count j lj))
               (omega (arith, slot-at i li, slot-at j lj, word-count i li));
-          steps = λ k. job-stepping s n ok .words-then-done k ∙ ap (λ (x : List ℕ). take k (map Word x ++ replicate k Done)) (sym words-front);
+          steps = λ u c. rw words-front (job-stepping s n u c);
         }

@@ -12,7 +12,9 @@ pub mod Counts
 pub mod Demand2
 pub mod Acceptance
 pub mod Carried
+pub mod Listed
 pub mod Demand3
+pub mod Card
 pub mod Dash
 pub mod DamagedLine
 pub mod NothingFalse

@@ -1,28 +1,29 @@
 -- Demand 3: the slots and batches that are reported of an accepted job keep their bounds, and are those of the placement and those in
 -- the card's words; the steps give the same words. `demand3` in proofs/Demand3.antt proves it of every job.
 use mathlib.Core.Path.{_≡_}
-use mathlib.Core.Bool.{true, cond}
-use mathlib.Core.List.{List, _++_, map}
+use mathlib.Core.Bool.{true, false, cond}
+use mathlib.Core.List.{List}
 use mathlib.Core.Logic.{_⊎_}
-use Prim.Native.Nat.{ℕ, _+_, _*_, _/_, _≤_, _<_}
-use lib.ListN.{length, getD, take, replicate}
-use lib.Dec.{eqb, ltb, leb}
+use Prim.Native.Nat.{ℕ, _+_, _-_, _*_, _/_, _≤_, _<_}
+use lib.ListN.{length, getD, take}
+use lib.Dec.{eqb, leb}
 use Rattle.base.specs.Lists.{over}
 use Rattle.base.specs.Search.{sum}
 use Rattle.codeword.specs.Code as code
 use Rattle.job.specs.Pages.{pageAt}
 use Rattle.job.specs.Job.{jobOf}
+use Rattle.job.specs.declared.JobAnswer.{JobAnswer}
 use Rattle.job.specs.declared.JobAnswer.the-variants.{Accepted}
-use Rattle.placement.specs.Placement.{address, messages, latest, slotBound, contentAt, batches, slots}
+use Rattle.placement.specs.Placement.{address, contentAt, endsWith, batches, slots}
+use Rattle.placement.specs.Promise.{earlier, GoesOut}
 use Rattle.transmission.specs.Sending.{Sending, sendingOf, sendingsOf, placementOf}
 use Rattle.transmission.specs.Transmission.{addressOf, messageOf, transmissionOf}
-use Rattle.transmission.specs.Transmitted.{slotIndex, isAddress}
+use Rattle.transmission.specs.Transmitted.{slotIndex, isAddress, addressesTo}
 use Rattle.transmission.specs.Report.{reportOf, wordsSent, slotsSent, numberOf}
 use Rattle.transmission.specs.declared.Report.{Report}
 use Rattle.transmission.specs.declared.Report.the-variants.{Sent}
-use Rattle.sender.specs.declared.Answer.the-variants.{Word, Done}
-use Rattle.sender.specs.Start.{startedOf}
-use Rattle.sender.specs.Stepping.{answers, Stepping}
+use Rattle.sender.specs.declared.Sender.{Sender}
+use Rattle.sender.specs.Stepping.{StartCall, Stepping}
 
 -- ---- accepted jobs
 
@@ -39,7 +40,7 @@ pub record Acceptance (s : List ℕ) : Type 0 where
   -- room for 300 batches and 48 pages is enough for every accepted job
   pub enough : (n : ℕ) → jobOf s ≡ Accepted n → (words slots : ℕ) → 5118 ≤ words → 48 ≤ slots → numberOf (reportOf s words slots) ≡ 0
   -- starting the steps accepts the same jobs
-  pub started : startedOf s .answer ≡ jobOf s
+  pub started : (a : JobAnswer) (t : Sender) → StartCall s a t → a ≡ jobOf s
 
 -- ---- a call of `send`
 
@@ -69,28 +70,17 @@ slot t i = getD t i 0
 abbrev pub wordIn : List ℕ → ℕ → ℕ
 wordIn w p = getD w (slotIndex p) 0
 
--- the sum of f over those of n pages whose reported slot is before that of page i
-unfoldable pub earlier : List ℕ → ℕ → (ℕ → ℕ) → ℕ → ℕ
-earlier t n f i = sum (λ j. cond (ltb (slot t j) (slot t i)) (f j) 0) n
-
--- page i goes out k-th: k - 1 pages go out before it
-abbrev pub GoesOut : List ℕ → ℕ → ℕ → ℕ → Type 0
-GoesOut t n k i = earlier t n (λ _. 1) i + 1 ≡ k
-
 -- Below a job s of n pages is sent with b batches and m words, and the words and slots at exit are w and t.
 
 -- the two bounds
 pub record InTime (s : List ℕ) (n b : ℕ) (t : List ℕ) : Type 0 where
   -- for every k from 1 to n exactly one page goes out k-th
-  pub some : (k : ℕ) → 1 ≤ k → k ≤ n → (i : ℕ) × (i < n) × GoesOut t n k i
-  pub one : (k i j : ℕ) → i < n → j < n → GoesOut t n k i → GoesOut t n k j → i ≡ j
+  pub some : (k : ℕ) → 1 ≤ k → k ≤ n → (i : ℕ) × (i < n) × GoesOut (slot t) n k i
+  pub one : (k i j : ℕ) → i < n → j < n → GoesOut (slot t) n k i → GoesOut (slot t) n k j → i ≡ j
   -- its slot is at most 16 k - 2 and the message codewords of the pages before it
-  pub in-time : (k i : ℕ) → i < n → GoesOut t n k i → slot t i ≤ latest k (earlier t n (count s) i)
-  -- the batches are at most the sixteenth part of 16 n and all message codewords less one, rounded down, and one more
-  pub few : b ≤ slotBound (placementOf (sendingsOf s)) / 16 + 1
-  -- the bound's pages and message codewords are those of the job
-  pub pages : placementOf (sendingsOf s) .pages ≡ n
-  pub codewords : messages (placementOf (sendingsOf s)) ≡ sum (count s) n
+  pub in-time : (k i : ℕ) → i < n → GoesOut (slot t) n k i → slot t i ≤ 16 * k - 2 + earlier (slot t) n (count s) i
+  -- the batches are at most (16 n + m - 1) / 16, rounded down, and one more, where m are the message codewords of all pages
+  pub few : b ≤ (16 * n + sum (count s) n - 1) / 16 + 1
 
 -- what is reported is what the placement says
 pub record AsPlaced (s : List ℕ) (n b m : ℕ) (w t : List ℕ) : Type 0 where
@@ -98,6 +88,9 @@ pub record AsPlaced (s : List ℕ) (n b m : ℕ) (w t : List ℕ) : Type 0 where
   pub batches-are : b ≡ batches (placementOf (sendingsOf s))
   pub slots-are : take n t ≡ slots (placementOf (sendingsOf s))
   pub placed : (i : ℕ) → i < n → contentAt (placementOf (sendingsOf s)) (slot t i) ≡ address i
+  -- the transmission can end with the last of these batches, and with none before it
+  pub ended : endsWith (placementOf (sendingsOf s)) (b - 1) ≡ true
+  pub soonest : (q : ℕ) → q + 1 < b → endsWith (placementOf (sendingsOf s)) q ≡ false
   -- 18 words and 17 a batch, which are all the card's words
   pub words-are : m ≡ 18 + 17 * b
   pub card : take m w ≡ transmissionOf (sendingsOf s)
@@ -110,7 +103,9 @@ pub record InWords (s : List ℕ) (n b m : ℕ) (w t : List ℕ) : Type 0 where
   -- the slots whose word is an address are the reported ones
   pub reported : (p : ℕ) → p < 16 * b → isAddress (wordIn w p) ≡ true → (i : ℕ) × (i < n) × (p ≡ slot t i)
   pub addressed : (i : ℕ) → i < n → isAddress (wordIn w (slot t i)) ≡ true
-  -- there stands the codeword of the page's identity and function
+  -- the page that goes out k-th has the k-th address in slot order: the slots before its own hold k - 1
+  pub in-turn : (k i : ℕ) → i < n → GoesOut (slot t) n k i → addressesTo (wordIn w) (slot t i) + 1 ≡ k
+  -- in a page's slot stands the codeword of its identity and function
   pub its-address : (i : ℕ) → i < n → wordIn w (slot t i) ≡ addressOf (page s i)
   -- and directly behind it a message codeword for each of the page's groups, inside the batches
   pub counted : (i : ℕ) → i < n → length (page s i .groups) ≡ count s i
@@ -121,15 +116,14 @@ pub record InWords (s : List ℕ) (n b m : ℕ) (w t : List ℕ) : Type 0 where
   -- sync stands in the words once for each reported batch
   pub syncs : sum (λ k. cond (eqb (getD w k 0) code.sync) 1 0) m ≡ b
 
--- all of that; the pause after a message (R-3); and any number k of steps answers these very words, the first k of them, with nothing
--- but done behind the last
+-- all of that; the pause after a message (R-3); and every list of steps of the same job answers these very words, and then done
 pub record Carried (s : List ℕ) (n b m : ℕ) (w t : List ℕ) : Type 0 where
   pub in-time : InTime s n b t
   pub as-placed : AsPlaced s n b m w t
   pub in-words : InWords s n b m w t
   -- a page with a message doesn't start in the slot directly behind another page's message
   pub paused : (i j : ℕ) → i < n → j < n → 0 < count s i → 0 < count s j → slot t j ≡ slot t i + count s i + 1 → ⊥
-  pub steps : (k : ℕ) → answers k (startedOf s .state) ≡ take k (map Word (take m w) ++ replicate k Done)
+  pub steps : (u : Sender) → StartCall s (Accepted n) u → Stepping (take m w) u
 
 -- ---- demand 3 of a job, whatever its bytes are
 
@@ -137,6 +131,6 @@ pub record Demand3 (s : List ℕ) : Type 0 where
   pub acceptance : Acceptance s
   -- every call of `send` that reports b batches and m words
   pub sending : (w₀ t₀ w t : List ℕ) (b m : ℕ) → Call s w₀ t₀ (Sent b m) w t → (n : ℕ) × (jobOf s ≡ Accepted n) × Carried s n b m w t
-  -- every list of steps, by value or in place, from the state that the job gives if it is accepted: none is declined, the answers are
-  -- the card's words and then done, and a step behind the last word alters nothing
-  pub stepping : (n : ℕ) → jobOf s ≡ Accepted n → Stepping (sendingsOf s) (startedOf s .state)
+  -- every list of steps, in place or by value, from the state that a start gives which accepts the job: none is declined, the answers
+  -- are the card's words and then done, and a step behind the last word alters nothing
+  pub stepping : (n : ℕ) (u : Sender) → StartCall s (Accepted n) u → Stepping (transmissionOf (sendingsOf s)) u

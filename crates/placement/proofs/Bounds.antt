@@ -10,7 +10,7 @@ use lib.Seq.{getD-set-same, getD-set-other}
 use Rattle.base.specs.Search.{sum}
 use Rattle.base.proofs.Bools.{true-false}
 use Rattle.base.proofs.SearchLaws.{le-or-lt, sum-at, sum-le, sum-cong, sum-ones, sum-zeros}
-use Rattle.placement.specs.Placement.{fresh, Job, Framed, messages, latest, slotBound, State, Content, frameOf, stateAt}
+use Rattle.placement.specs.Placement.{fresh, Job, Framed, messages, slotBound, State, Content, frameOf, stateAt}
 use Rattle.placement.proofs.Turn.{Turn, runs, starts, rests, turn, ready-true, ready-false}
 
 -- in any 15 slots in a row each frame has one at least
@@ -85,7 +85,7 @@ all-sent job st h = sum-cong _ _ (job .pages) (λ k l. go (getD (st .sent) k 0) 
 
 -- the slot by which the next page starts
 abbrev pub nextBy : Job → State → ℕ
-nextBy job st = latest (count job st + 1) (carried job st)
+nextBy job st = 16 * (count job st + 1) - 2 + carried job st
 
 -- how many slots a page with w message codewords is held back beyond the l codewords that are left of a message: one, the pause, while
 -- the message runs and directly behind it; none for a tone

@@ -16,7 +16,7 @@ use Rattle.base.proofs.ListLaws.{tab-length, tab-at, tab-list}
 use Rattle.base.proofs.Bools.{true-false, and-true, and-both}
 use Rattle.base.proofs.SearchLaws.{Least, least-is, least-only, sum-cong, le-or-lt}
 use Rattle.placement.specs.Placement.{Job, jobOf, Framed, slotBound, State, Content, address, message, isMessage, stateAt, contentAt, allOut, endsWith, batches, slotOf, slots}
-use Rattle.placement.specs.Promise.{before, Holds, nothing, itsAddress, itsMessage, Placed, Limits}
+use Rattle.placement.specs.Promise.{earlier, Holds, nothing, itsAddress, itsMessage, Placed, Limits}
 use Rattle.placement.proofs.Sendable.{Sendable}
 use Rattle.placement.proofs.Turn.{Turn, runs, starts, rests, ready-true}
 use Rattle.placement.proofs.Bounds.{none-sent, all-sent, total-start, good, gone, total, count, no-message, none-unsent}
@@ -158,13 +158,17 @@ module _ (job : Job) (framed : Framed job) where
   next-count {s} {st} m (starts i z l r _) = inr (i, refl, total-start job (λ _. 1) (st .sent) i l (ready-true job s st i r .0) s m)
   next-count m (rests z none) = inl refl
 
+  -- how many pages go out before page i
+  abbrev rankOf : ℕ → ℕ
+  rankOf i = earlier (slotOf job) (job .pages) (λ _. 1) i
+
   -- the page that starts in slot s is that of its rank
-  rank : (s i : ℕ) → contentAt job s ≡ address i → before job (λ _. 1) i ≡ count job (stateAt job s)
-  unfolding before
+  pub rank : (s i : ℕ) → contentAt job s ≡ address i → rankOf i ≡ count job (stateAt job s)
+  unfolding earlier
   rank s i e = rw (← once s i e) (sym (marked-before (λ _. 1) s))
 
   -- a page of each rank below the count has been sent
-  ranked : (s k : ℕ) → k < count job (stateAt job s) → (i : ℕ) × (i < job .pages) × (before job (λ _. 1) i ≡ k)
+  ranked : (s k : ℕ) → k < count job (stateAt job s) → (i : ℕ) × (i < job .pages) × (rankOf i ≡ k)
   unfolding stateAt
   ranked zero k h = absurd (omega (arith, none-sent job))
   ranked (suc s) k h =
@@ -188,7 +192,7 @@ module _ (job : Job) (framed : Framed job) where
       rw (b .next) (total-start job (λ _. 1) (stateAt job s .sent) i (b .page) (b .fresh) s (good job framed s .marks))
 
   -- a page that goes out later has a higher rank
-  later : (i j : ℕ) → i < job .pages → j < job .pages → slotOf job i < slotOf job j → before job (λ _. 1) i < before job (λ _. 1) j
+  later : (i j : ℕ) → i < job .pages → j < job .pages → slotOf job i < slotOf job j → rankOf i < rankOf j
   later i j li lj h =
       omega (
         arith,
@@ -235,7 +239,7 @@ module _ (job : Job) (framed : Framed job) where
       tab-list pred 0 marks (job .pages) (omega arith) ∙ rw none (append-nil _)
 
   pub placed : Placed job
-  unfolding before
+  unfolding earlier
   placed =
       record {
         kth = λ k i l e.

@@ -41,13 +41,7 @@ unfoldable pub isSendable : List ℕ → List ℕ → Bool
 isSendable frames words =
     eqb (length words) (length frames) && leb (length frames) 48 && allFramed frames && leb (messages (jobOf frames words)) 4032
 
--- ---- demand 3's two bounds
-
--- the last slot that the k-th address can have, where m message codewords go out before it
-abbrev pub latest : ℕ → ℕ → ℕ
-latest k m = 16 * k - 2 + m
-
--- the slot from which on all is out, for n pages and m message codewords: one more than its sixteenth part is the most batches
+-- the slot from which on all is out, for n pages and m message codewords: one more than its sixteenth part is demand 3's bound on batches
 abbrev pub slotBound : Job → ℕ
 slotBound job = 16 * job .pages + messages job - 1
 

@@ -6,15 +6,15 @@ use mathlib.Core.List.{List}
 use Prim.Native.Nat.{ℕ, _+_, _-_, _*_, _/_, _≤_, _<_}
 use lib.Dec.{ltb}
 use Rattle.base.specs.Search.{sum}
-use Rattle.placement.specs.Placement.{Job, jobOf, latest, slotBound, Content, idle, address, message, frameOf, contentAt, endsWith, batches, slotOf}
+use Rattle.placement.specs.Placement.{Job, jobOf, slotBound, Content, idle, address, message, frameOf, contentAt, endsWith, batches, slotOf}
 
--- the sum of w over the pages that go out before page i
-unfoldable pub before : Job → (ℕ → ℕ) → ℕ → ℕ
-before job w i = sum (λ j. cond (ltb (slotOf job j) (slotOf job i)) (w j) 0) (job .pages)
+-- the sum of w over those of n pages that go out before page i, where page j goes out in slot at j
+unfoldable pub earlier : (ℕ → ℕ) → ℕ → (ℕ → ℕ) → ℕ → ℕ
+earlier at n w i = sum (λ j. cond (ltb (at j) (at i)) (w j) 0) n
 
 -- page i goes out k-th, counted from 1: k - 1 pages go out before it
-abbrev pub Kth : Job → ℕ → ℕ → Type 0
-Kth job k i = before job (λ _. 1) i + 1 ≡ k
+abbrev pub GoesOut : (ℕ → ℕ) → ℕ → ℕ → ℕ → Type 0
+GoesOut at n k i = earlier at n (λ _. 1) i + 1 ≡ k
 
 -- what slot s holds is idle, the address of a page reported there, or message codeword j of a page whose address is j + 1 slots before
 pub data Holds (job : Job) (s : ℕ) : Content → Type 0 where
@@ -24,11 +24,11 @@ pub data Holds (job : Job) (s : ℕ) : Content → Type 0 where
 
 -- demand 3 over the placement
 pub record Placed (job : Job) : Type 0 where
-  -- the k-th address keeps its bound, 16 k - 2 and the message codewords of the pages before it
-  pub kth : (k i : ℕ) → i < job .pages → Kth job k i → slotOf job i ≤ latest k (before job (job .words) i)
+  -- the k-th address keeps its bound, with the message codewords of the pages before it
+  pub kth : (k i : ℕ) → i < job .pages → GoesOut (slotOf job) (job .pages) k i → slotOf job i ≤ 16 * k - 2 + earlier (slotOf job) (job .pages) (job .words) i
   -- for every k from 1 to n there is exactly one page that goes out k-th
-  pub some : (k : ℕ) → 0 < k → k ≤ job .pages → (i : ℕ) × (i < job .pages) × Kth job k i
-  pub one : (k i j : ℕ) → i < job .pages → j < job .pages → Kth job k i → Kth job k j → i ≡ j
+  pub some : (k : ℕ) → 0 < k → k ≤ job .pages → (i : ℕ) × (i < job .pages) × GoesOut (slotOf job) (job .pages) k i
+  pub one : (k i j : ℕ) → i < job .pages → j < job .pages → GoesOut (slotOf job) (job .pages) k i → GoesOut (slotOf job) (job .pages) k j → i ≡ j
   -- the batches keep theirs, one more than the sixteenth part of 16 n + m - 1
   pub few : batches job ≤ slotBound job / 16 + 1
   -- the transmission can end with the last batch, and with no batch before it

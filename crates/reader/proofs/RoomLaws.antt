@@ -20,6 +20,7 @@ use Rattle.reader.specs.Meaning.{meaning}
 use Rattle.reader.specs.Reading.{Hearing, State, extended, closedAs, close, take, hear, readAt, slotWord, heardIn}
 use Rattle.reader.specs.Lines.{kindHeard, lineHeard, linesHeard}
 use Rattle.reader.specs.Answers.{firstUnsynced, printedInto, readBatches, readWords, readFrom, readListing, numberOf}
+use Rattle.reader.specs.Enough.{Enough}
 use Rattle.reader.specs.declared.Fault.the-variants.{Malformed, TooMany, Unsynced}
 use Rattle.reader.specs.declared.Reading.the-variants.{Declined}
 use Rattle.reader.specs.declared.Meaning.{Meaning}
@@ -96,3 +97,14 @@ words-fit words room h = go (eqb (length words) 0 || not (eqb (length words % 17
     go false true f e = omega arith
     go false false f e = batches-fit words room (ltb-false 300 (length words / 17) f) h e
 
+listing-fits : (s : List ℕ) (room : ℕ) → 48000 ≤ room → numberOf (readListing s room) ≡ 10 → ⊥
+unfolding readListing
+listing-fits s room h = go (listingOf s) refl
+  where
+    go : (l : Listing) → listingOf s ≡ l → numberOf (readFrom l (wordsOf s) room) ≡ 10 → ⊥
+    go (listing.WellFormed p b) f e = let w = formed s p b f in batches-fit (wordsOf s) room (omega (arith, w .count, w .limits .few)) h e
+    go (listing.Declined (listing-fault.Malformed line)) f e = omega arith
+    go (listing.Declined (listing-fault.TooMany line)) f e = omega arith
+
+pub enough : Enough
+enough = record { of-words = words-fit; of-listing = listing-fits }

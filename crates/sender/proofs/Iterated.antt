@@ -23,7 +23,6 @@ use Rattle.sender.specs.declared.Stepped.{Stepped}
 use Rattle.sender.specs.declared.Answer.the-variants.{Word, Done}
 use Rattle.sender.specs.Step.{jobIn, codewordsIn, sends, syncDue, afterSync, inBatch, afterPreamble, fromSound, stateFrom, stepOf}
 use Rattle.sender.specs.Start.{atFirst, begun}
-use Rattle.sender.specs.Stepping.{after}
 use Rattle.sender.proofs.Search.{set-flag, clear-flag}
 use Rattle.sender.proofs.Ways.{here, gavePreamble, gaveSync, gaveDone, way-sound, way-preamble, way-batch, way-done, way-sync, way-slot, way-in}
 use Rattle.sender.proofs.Held.{Fit, HeldAt, held-preamble, held-sync, held-first, held-content, held-finished, held-sound, held-next}
@@ -43,6 +42,11 @@ record At (p : PageTable) (words : List ℕ) (k : ℕ) (s : Sender) : Type 0 whe
 -- a step gave word k, and left the sender before word k + 1
 abbrev Gave : PageTable → List ℕ → ℕ → Stepped → Type 0
 Gave p words k z = (z .answer ≡ Word (wordAt (codewordsIn p words) (jobIn p) k)) × At p words (suc k) (z .state)
+
+-- the state that n steps leave
+unfoldable pub after : ℕ → Sender → Sender
+after zero s = s
+after (suc n) s = after n (stepOf s .state)
 
 -- one step more is a step from the state that they leave
 pub after-suc : (k : ℕ) (s : Sender) → after (suc k) s ≡ stepOf (after k s) .state

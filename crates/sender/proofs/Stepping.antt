@@ -1,37 +1,64 @@
 -- The claim about every list of steps: `stepping` of all sendings that an accepted job can have, and `job-stepping` of every
--- accepted job. Assumes nothing.
+-- start that accepts its job. Assumes nothing.
 use Prim.Native.Nat.{ℕ, zero, suc, _≤_, _<_, zero-le, suc-le-suc}
-use mathlib.Core.Path.{_≡_, refl, sym, ap, subst, _∙_}
+use mathlib.Core.Path.{_≡_, refl, sym, ap, ap₂, _∙_}
 use mathlib.Core.Logic.{⊎-elim}
 use mathlib.Core.List.{List, _∷_, _++_, map}
 use native.Mathlib.Nat.{not-suc-le-zero, le-of-suc-le-suc, le-refl}
 use native.Mathlib.Omega.{arith}
-use lib.ListN.{take, replicate}
+use lib.ListN.{length, getD, take, replicate}
 use Rattle.base.specs.Search.{least}
 use Rattle.base.specs.Lists.{tab, padded}
-use Rattle.base.proofs.ListLaws.{map-tab}
+use Rattle.base.proofs.ListLaws.{map-tab, tab-at}
 use Rattle.base.proofs.SearchLaws.{le-or-lt}
+use Rattle.job.specs.Job.{jobOf}
 use Rattle.job.specs.declared.JobAnswer.{JobAnswer}
+use Rattle.job.specs.declared.JobAnswer.the-variants.{Accepted}
 use Rattle.placement.specs.Placement.{allOut}
 use Rattle.transmission.specs.Sending.{Sending, sendingsOf, placementOf, AllAllowed}
 use Rattle.transmission.specs.Transmission.{codewordsOf, wordAt, wordCount, transmission, transmissionOf}
 use Rattle.transmission.proofs.Sendings.{accepted-sendings}
 use Rattle.transmission.proofs.TransmissionLaws.{transmission-length}
 use Rattle.sender.specs.declared.Sender.{Sender}
+use Rattle.sender.specs.declared.Started.{Started}
+use Rattle.sender.specs.declared.Opening.{Opening}
+use Rattle.sender.specs.declared.Stepped.{Stepped}
 use Rattle.sender.specs.declared.Answer.{Answer}
-use Rattle.sender.specs.declared.Answer.the-variants.{Word, Done}
+use Rattle.sender.specs.declared.Answer.the-variants.{Word, Done, Refused}
 use Rattle.sender.specs.Answer.{numberOf}
 use Rattle.sender.specs.Step.{runWrong, declined, syncDue, finished, inBatch, fromSound, stepOf}
 use Rattle.sender.specs.Start.{wordsOf, pagesFrom, startOf, noState, stateBy, startedOf}
-use Rattle.sender.specs.Stepping.{answers, after, Stepping, JobStepping, NoStepping}
+use Rattle.sender.specs.Stepping.{StartCall, byValue, inPlace, StepCall, Calls, none, more, Stepping, JobStepping, NoStepping}
 use Rattle.sender.proofs.Begun.{fit-of, word-is, count-is}
-use Rattle.sender.proofs.Iterated.{after-suc, gives-word, past-end}
+use Rattle.sender.proofs.Iterated.{after, gives-word, past-end}
 
--- the answers by their number
-listed : (n : ℕ) (s : Sender) → answers n s ≡ tab (λ k. stepOf (after k s) .answer) n
-unfolding answers tab after
-listed zero s = refl
-listed (suc n) s = ap (λ (l : List Answer). stepOf s .answer ∷ l) (listed n (stepOf s .state))
+-- ---- the calls
+
+-- both kinds of step do what the definition says
+step-is : (s : Sender) (a : Answer) (t : Sender) → StepCall s a t → (a ≡ stepOf s .answer) × (t ≡ stepOf s .state)
+step-is s a t (inPlace _ _ e f) = (e, f)
+step-is s a t (byValue r e) = (ap (λ (x : Stepped). x .answer) e, ap (λ (x : Stepped). x .state) e)
+
+-- the answers of a list of steps by their number, and the state at its end
+listed : (s : Sender) (given : List Answer) (t : Sender) → Calls StepCall s given t
+    → (given ≡ tab (λ k. stepOf (after k s) .answer) (length given)) × (t ≡ after (length given) s)
+unfolding tab after
+listed s given t (none _) = (refl, refl)
+listed s given u (more _ t _ a bs c cs) =
+    let h = step-is s a t c in
+    let r : (bs ≡ tab (λ k. stepOf (after k (stepOf s .state)) .answer) (length bs)) × (u ≡ after (length bs) (stepOf s .state)) =
+    rw (h .1) at (listed t bs u cs) in
+    (ap₂ (λ (x : Answer) (l : List Answer). x ∷ l) (h .0) (r .0), r .1)
+
+-- a start answers the job, and where it accepts it, gives the state of its sendings
+pub start-is : (s : List ℕ) (a : JobAnswer) (t : Sender) → StartCall s a t → (a ≡ jobOf s) × ((n : ℕ) → jobOf s ≡ Accepted n → t ≡ startOf (sendingsOf s))
+unfolding startedOf
+start-is s a t (byValue r e) =
+    (ap (λ (x : Started). x .answer) e, λ n ok. ap (λ (x : Started). x .state) e ∙ ap (λ (x : JobAnswer). stateBy x (sendingsOf s)) ok)
+start-is s a t (inPlace r old new e f) =
+    (ap (λ (x : Opening). x .answer) e, λ n ok. rw (e, f, ok))
+
+-- ---- the answers
 
 -- what is w below m, and d from m on, begins with w 0 .. w (m - 1)
 firsts : {A : Type 0} (f w : ℕ → A) (d : A) (m n r : ℕ) → n ≤ r → ((k : ℕ) → k < m → f k ≡ w k) → ((k : ℕ) → m ≤ k → f k ≡ d)
@@ -62,26 +89,40 @@ module _ (xs : List Sending) (a : AllAllowed xs) where
   unfolding startOf
   rest k l = past-end (pagesFrom xs) (padded 4032 (wordsOf xs)) (fit-of xs a) k (omega (arith, count-is xs a))
 
-  all-answers : (n : ℕ) → answers n start ≡ take n (map Word (transmissionOf xs) ++ replicate n Done)
-  unfolding transmission
-  all-answers n =
-      listed n start
-      ∙ firsts (λ k. stepOf (after k start) .answer) (λ k. Word (wordAt (codewordsOf xs) (placementOf xs) k)) Done total n n (le-refl n) word (λ k l. rest k l .0)
-      ∙ ap (λ (l : List Answer). take n (l ++ replicate n Done)) (sym (map-tab Word (wordAt (codewordsOf xs) (placementOf xs)) total))
+  module _ (given : List Answer) (t : Sender) (calls : Calls StepCall start given t) where
+    all-answers : given ≡ take (length given) (map Word (transmissionOf xs) ++ replicate (length given) Done)
+    unfolding transmission
+    all-answers =
+        listed start given t calls .0
+        ∙ firsts (λ k. stepOf (after k start) .answer) (λ k. Word (wordAt (codewordsOf xs) (placementOf xs) k)) Done total (length given) (length given) (le-refl (length given))
+        word (λ k l. rest k l .0)
+        ∙ ap (λ (l : List Answer). take (length given) (l ++ replicate (length given) Done)) (sym (map-tab Word (wordAt (codewordsOf xs) (placementOf xs)) total))
 
-  pub stepping : Stepping xs (startOf xs)
-  stepping =
-      record {
-        words-then-done = all-answers;
-        none-declined = λ n.
-            ⊎-elim (λ l. ap numberOf (rest n l .0)) (λ l. ap numberOf (word n l)) (le-or-lt total n);
-        at-rest = λ n l. after-suc n start ∙ rest n (omega (arith, transmission-length (codewordsOf xs) (placementOf xs))) .1;
-      }
+    answer-at : (k : ℕ) → k < length given → getD given k Refused ≡ stepOf (after k start) .answer
+    answer-at k l =
+        ap (λ (x : List Answer). getD x k Refused) (listed start given t calls .0) ∙ tab-at (λ j. stepOf (after j start) .answer) (length given) k Refused l
+
+    answered : (k : ℕ) → k < length given → numberOf (getD given k Refused) ≡ 0
+    answered k l =
+        ap numberOf (answer-at k l)
+        ∙ ⊎-elim (λ h. ap numberOf (rest k h .0)) (λ h. ap numberOf (word k h)) (le-or-lt total k)
+
+    rests : length (transmissionOf xs) ≤ length given → (a : Answer) (u : Sender) → StepCall t a u → u ≡ t
+    rests l a u c =
+        let e : t ≡ after (length given) start = listed start given t calls .1 in
+        step-is t a u c .1
+        ∙ ap (λ (x : Sender). stepOf x .state) e
+        ∙ rest (length given) (omega (arith, transmission-length (codewordsOf xs) (placementOf xs))) .1
+        ∙ sym e
+
+  pub stepping : Stepping (transmissionOf xs) (startOf xs)
+  stepping = record { words-then-done = all-answers; none-declined = answered; at-rest = rests }
 
 pub job-stepping : JobStepping
-unfolding startedOf
-job-stepping s n ok =
-    subst (λ (r : JobAnswer). Stepping (sendingsOf s) (stateBy r (sendingsOf s))) (sym ok) (stepping (sendingsOf s) (accepted-sendings s n ok))
+job-stepping s n t c =
+    let r = start-is s (Accepted n) t c in
+    let ok : jobOf s ≡ Accepted n = sym (r .0) in
+    rw (r .1 n ok) (stepping (sendingsOf s) (accepted-sendings s n ok))
 
 -- the state of a refused job is at rest
 none-steps : stepOf noState ≡ record { answer = Done; state = noState }

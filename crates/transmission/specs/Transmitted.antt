@@ -6,6 +6,7 @@ use lib.Dec.{eqb, ltb}
 use Rattle.base.specs.Search.{sum}
 use Rattle.codeword.specs.Code as code
 use Rattle.placement.specs.Placement.{Job, batches, slotOf}
+use Rattle.placement.specs.Promise.{earlier}
 use Rattle.transmission.specs.Transmission.{Codewords, wordAt, wordCount}
 
 -- slot s is word 19 + 17 q + r, where s = 16 q + r and r is under 16
@@ -19,6 +20,10 @@ slotWord c job s = wordAt c job (slotIndex s)
 abbrev pub isAddress : ℕ → Bool
 isAddress w = ltb w (2 ^ 31) && not (eqb w code.idle)
 
+-- how many of the slots before slot s hold an address, by the word of each slot
+abbrev pub addressesTo : (ℕ → ℕ) → ℕ → ℕ
+addressesTo word s = sum (λ p. cond (isAddress (word p)) 1 0) s
+
 -- what the codewords of an accepted job are: an address has bit 1 clear and is neither idle nor sync, a message codeword has bit 1 set
 pub record Coded (job : Job) (c : Codewords) : Type 0 where
   pub clear : (i : ℕ) → i < job .pages → c .address i < 2 ^ 31
@@ -30,6 +35,8 @@ pub record Transmitted (job : Job) (c : Codewords) : Type 0 where
   -- a slot's word is an address exactly when the slot is reported, and it is the address of the page reported there
   pub reported : (s : ℕ) → isAddress (slotWord c job s) ≡ true → (i : ℕ) × (i < job .pages) × (s ≡ slotOf job i)
   pub itsAddress : (i : ℕ) → i < job .pages → (slotWord c job (slotOf job i) ≡ c .address i) × (isAddress (slotWord c job (slotOf job i)) ≡ true)
+  -- before it stand as many addresses as pages go out before this one
+  pub inTurn : (i : ℕ) → i < job .pages → addressesTo (slotWord c job) (slotOf job i) ≡ earlier (slotOf job) (job .pages) (λ _. 1) i
   -- with that page's message codewords in the slots directly behind
   pub itsMessage : (i j : ℕ) → i < job .pages → j < job .words i → slotWord c job (slotOf job i + 1 + j) ≡ c .message i j
   -- and every slot that is neither is idle
