@@ -9,14 +9,12 @@ use lib.ListN.{length}
 use lib.Dec.{ltb}
 use borrow.Author.Tests.{le-ltb}
 use Rattle.job.specs.Job.{jobOf}
-use Rattle.job.specs.Refusal as refusal
-use Rattle.job.specs.declared.Refusal.{Refusal}
 use Rattle.job.specs.declared.JobAnswer.{JobAnswer}
 use Rattle.job.specs.declared.JobAnswer.the-variants.{Accepted, Refused}
+use Rattle.job.proofs.RefusalLaws.{refused-number}
 use Rattle.placement.specs.Placement.{batches}
 use Rattle.transmission.specs.Sending.{Sending, sendingsOf, placementOf}
 use Rattle.transmission.specs.Transmission.{wordCount}
-use Rattle.job.proofs.RefusalLaws.{refused-number}
 use Rattle.transmission.specs.Report.{answered, reportOf, numberOf}
 use Rattle.transmission.specs.declared.Report.{Report}
 use Rattle.transmission.specs.declared.Report.the-variants.{Sent, Declined, NoRoom}

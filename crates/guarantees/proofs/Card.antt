@@ -25,7 +25,7 @@ use Rattle.card.specs.declared.CardRefusal.{CardRefusal}
 use Rattle.card.specs.declared.CardStep.{CardStep}
 use Rattle.guarantees.specs.Demand3.{Call}
 use Rattle.guarantees.specs.Card.{CardSend, CardStart, CardStepCall, wordTold, doneTold, CardStepping, CardDemand3}
-use Rattle.guarantees.proofs.Acceptance.{refused-number}
+use Rattle.job.proofs.RefusalLaws.{refused-number}
 use Rattle.guarantees.proofs.Demand3.{demand3}
 
 -- ---- sending

@@ -26,7 +26,7 @@ use Rattle.card.specs.declared.CardBytes.{CardBytes}
 use Rattle.guarantees.specs.Transport.{flipCount, flipsIn}
 use Rattle.guarantees.specs.Listed.{ListingBack, ListJob, CardList, ReadAfterListing, ListedThenRead}
 use Rattle.guarantees.proofs.Received.{clean}
-use Rattle.guarantees.proofs.Acceptance.{refused-number}
+use Rattle.job.proofs.RefusalLaws.{refused-number}
 use Rattle.guarantees.proofs.Carried.{front-fits}
 use Rattle.guarantees.proofs.Demand2.{demand2}
 

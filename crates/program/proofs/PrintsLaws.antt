@@ -41,6 +41,10 @@ Printed old text n out = (n ≡ length text) × (out ≡ over old text)
 same : (old a b out : List ℕ) (n : ℕ) → a ≡ b → Printed old a n out → Printed old b n out
 same old a b out n e p = (p .0 ∙ ap length e, p .1 ∙ ap (over old) e)
 
+-- the line of a refusal, by the number and place that were asked for, over what a declined call left as it was
+pub line-as : (old : List ℕ) (number place : ℕ) {left out : List ℕ} {num pl n : ℕ} → num ≡ number → pl ≡ place → left ≡ old → Printed left (refusalLine num pl) n out → Printed old (refusalLine number place) n out
+line-as old number place a b e p = rw (a, b, e) at p
+
 module _ (s old : List ℕ) {n : ℕ} {out : List ℕ} where
   -- number 24
   pub send-long : 65536 < length s → Printed old (refusalLine 24 0) n out → Printed old (sendPrints s) n out

@@ -1,52 +1,61 @@
+-- `program::read` meets its contract. Assumes nothing.
+use mathlib.Core.Path.{_≡_, sym, ap, _∙_}
+use lib.ListN.{length}
 use borrow.Author.Needs.{needs}
+use Rattle.base.specs.Lists.{over}
+use Rattle.listing.specs.Words.{wordsOf}
+use Rattle.reader.specs.Answers.{linesRead, numberOf, placeOf}
+use Rattle.reader.specs.declared.Reading.{Reading}
+use Rattle.program.proofs.PrintsLaws.{line-as, read-long, read-whole, read-declined}
 use Rattle.program.proofs.read.Statement.{statement}
 use Rattle.program.proofs.read.Tie as tie
-use Rattle.program.proofs.read.Reads as reads
-use Rattle.program.proofs.read.Lts as lts
-use Rattle.program.proofs.write_refusal.Reads as write-refusal-reads
-use Rattle.reader.proofs.number.Reads as number-reads
-use Rattle.reader.proofs.place.Reads as place-reads
-use Rattle.reader.proofs.read_listing.Reads as read-listing-reads
 
--- src/lib.rt:71:9
+-- what is lent has room for all lines
+room : (c : tie.After-read-listing) → length (c .before .before .before .before .args .out .now) ≡ 48000
+room c = search needs
+
+-- what stands there once the listing is read
+left : (c : tie.After-read-listing) {r : Reading} → c .read-listing .result ≡ r → c .read-listing .last .1 .1 .0 ≡ over (c .before .before .before .before .args .out .now) (linesRead r (wordsOf (c .before .before .before .before .args .input .now)))
+left c e = c .read-listing .ensures .1 ∙ ap (λ (r : Reading). over (c .before .before .before .before .args .out .now) (linesRead r (wordsOf (c .before .before .before .before .args .input .now)))) e
+
 write-refusal-requires : tie.Need-write-refusal-requires
 write-refusal-requires c κs = search needs
 
--- src/lib.rt:71:9
 returns : tie.Need-returns
-returns c = ?
+returns c = read-long (c .before .before .before .before .args .input .now) (c .before .before .before .before .args .out .now) (c .before .before .if1 .taken) (c .write-refusal .ensures)
 
--- src/lib.rt:73:9
 read-listing-requires : tie.Need-read-listing-requires
 read-listing-requires c κs = search needs
 
--- src/lib.rt:74:9
 number-requires : tie.Need-number-requires
 number-requires c κs = search needs
 
--- src/lib.rt:75:9
 place-requires : tie.Need-place-requires
 place-requires c κs = search needs
 
--- src/lib.rt:82:13
 enum-known-answer : tie.Need-enum-known-answer
 enum-known-answer c = search needs
 
--- src/lib.rt:84:62
 enum-told : tie.Need-enum-told
 enum-told c = search needs
 
--- src/lib.rt:84:33
 write-refusal-requires-2 : tie.Need-write-refusal-requires-2
 write-refusal-requires-2 c κs = search needs
 
--- src/lib.rt:66:1
 returns-2 : tie.Need-returns-2
-returns-2 c = ?
+returns-2 c =
+    let v = c .before .before .before .before .before in
+    let a = c .before .before .before .before .before .before .before .before .before .args in
+    let told = sym (c .before .answer .given .1) in
+    read-whole (a .input .now) (a .out .now) (v .before .before .if1 .left) _ _ _ _ _ (room v) (told ∙ v .read-listing .ensures .0) (left v (sym told))
 
--- src/lib.rt:66:1
 returns-3 : tie.Need-returns-3
-returns-3 c = ?
+returns-3 c =
+    let v = c .before .before .before .before .before .before in
+    let a = c .before .before .before .before .before .before .before .before .before .before .args in
+    let told = sym (c .before .before .enum-told .given .1) in
+    read-declined (a .input .now) (a .out .now) (v .before .before .if1 .left) _ _ (room v) (told ∙ v .read-listing .ensures .0)
+    (line-as (a .out .now) _ _ (c .before .before .before .before .before .number .ensures ∙ ap numberOf (sym told)) (c .before .before .before .before .place .ensures ∙ ap placeOf (sym told)) (left v (sym told)) (c .write-refusal2 .ensures))
 
 pub read-spec : {M : Type 1} → statement M
 read-spec =

@@ -1,64 +1,76 @@
+-- `program::send` meets its contract. Assumes nothing.
+use mathlib.Core.Path.{_≡_, sym, ap, _∙_}
+use native.Mathlib.Omega.{arith}
+use lib.ListN.{length}
 use borrow.Author.Needs.{needs}
+use Rattle.base.specs.Lists.{over}
+use Rattle.job_listing.specs.Listed as listed
+use Rattle.job_listing.specs.Listed.{listingText, bytesListed}
+use Rattle.job_listing.specs.declared.Listed.{Listed}
+use Rattle.program.proofs.PrintsLaws.{line-as, send-long, send-written, send-declined, send-full}
 use Rattle.program.proofs.send.Statement.{statement}
 use Rattle.program.proofs.send.Tie as tie
-use Rattle.program.proofs.send.Reads as reads
-use Rattle.program.proofs.send.Lts as lts
-use Rattle.job_listing.proofs.list_job.Reads as list-job-reads
-use Rattle.job_listing.proofs.number.Reads as number-reads
-use Rattle.job_listing.proofs.place.Reads as place-reads
-use Rattle.program.proofs.write_refusal.Reads as write-refusal-reads
 
--- src/lib.rt:53:9
+-- what is lent has room for every listing
+room : (c : tie.After-list-job) → length (c .before .before .before .before .args .out .now) ≡ 46062
+room c = search needs
+
+-- what stands there once the listing is asked for
+left : (c : tie.After-list-job) {l : Listed} → c .list-job .result ≡ l → c .list-job .last .1 .0 ≡ over (c .before .before .before .before .args .out .now) (bytesListed l (listingText (c .before .before .before .before .args .input .now)))
+left c e = c .list-job .ensures .1 ∙ ap (λ (r : Listed). over (c .before .before .before .before .args .out .now) (bytesListed r (listingText (c .before .before .before .before .args .input .now)))) e
+
 write-refusal-requires : tie.Need-write-refusal-requires
 write-refusal-requires c κs = search needs
 
--- src/lib.rt:53:9
 returns : tie.Need-returns
-returns c = ?
+returns c = send-long (c .before .before .before .before .args .input .now) (c .before .before .before .before .args .out .now) (c .before .before .if1 .taken) (c .write-refusal .ensures)
 
--- src/lib.rt:55:9
 list-job-requires : tie.Need-list-job-requires
 list-job-requires c κs = search needs
 
--- src/lib.rt:56:9
 number-requires : tie.Need-number-requires
 number-requires c κs = search needs
 
--- src/lib.rt:57:9
 place-requires : tie.Need-place-requires
 place-requires c κs = search needs
 
--- src/lib.rt:59:25
 enum-known-answer : tie.Need-enum-known-answer
 enum-known-answer c = search needs
 
--- src/lib.rt:60:79
 enum-told : tie.Need-enum-told
 enum-told c = search needs
 
--- src/lib.rt:60:50
 write-refusal-requires-2 : tie.Need-write-refusal-requires-2
 write-refusal-requires-2 c κs = search needs
 
--- src/lib.rt:61:56
 enum-told-2 : tie.Need-enum-told-2
 enum-told-2 c = search needs
 
--- src/lib.rt:61:27
 write-refusal-requires-3 : tie.Need-write-refusal-requires-3
 write-refusal-requires-3 c κs = search needs
 
--- src/lib.rt:48:1
 returns-2 : tie.Need-returns-2
-returns-2 c = ?
+returns-2 c =
+    let v = c .before .before .before .before .before in
+    let a = c .before .before .before .before .before .before .before .before .before .args in
+    let told = sym (c .before .answer .given .1) in
+    send-written (a .input .now) (a .out .now) (v .before .before .if1 .left) _ (room v) (told ∙ v .list-job .ensures .0) (left v (sym told))
 
--- src/lib.rt:48:1
 returns-3 : tie.Need-returns-3
-returns-3 c = ?
+returns-3 c =
+    let v = c .before .before .before .before .before .before in
+    let a = c .before .before .before .before .before .before .before .before .before .before .args in
+    let told = sym (c .before .before .enum-told .given .1) in
+    send-declined (a .input .now) (a .out .now) (v .before .before .if1 .left) _ _ _ (room v) (told ∙ v .list-job .ensures .0)
+    (line-as (a .out .now) _ _ (c .before .before .before .before .before .number .ensures ∙ ap listed.numberOf (sym told)) (c .before .before .before .before .place .ensures ∙ ap listed.placeOf (sym told)) (left v (sym told)) (c .write-refusal2 .ensures))
 
--- src/lib.rt:48:1
 returns-4 : tie.Need-returns-4
-returns-4 c = ?
+returns-4 c =
+    let v = c .before .before .before .before .before .before in
+    let a = c .before .before .before .before .before .before .before .before .before .before .args in
+    let told = sym (c .before .before .enum-told2 .given .1) in
+    send-full (a .input .now) (a .out .now) (v .before .before .if1 .left) _ (room v) (told ∙ v .list-job .ensures .0)
+    (line-as (a .out .now) _ _ (c .before .before .before .before .before .number .ensures ∙ ap listed.numberOf (sym told)) (c .before .before .before .before .place .ensures ∙ ap listed.placeOf (sym told)) (left v (sym told)) (c .write-refusal3 .ensures))
 
 pub send-spec : {M : Type 1} → statement M
 send-spec =
