@@ -153,27 +153,38 @@ fn turned_digit(b: u8) -> u32
     }
 }
 
-// Table III from the byte to the value with its four bits turned round; 0 for any other byte.
-fn turned_numeric(b: u8) -> u32
-    ensures { λ r. ⌜ r ≡ turnedOf 4 (valueOf Numeric b) ⌝ }
+// Four bits turned round, by one arm a value too.
+fn turned_bits(bits: u32) -> u8
+    ensures { λ r. ⌜ r ≡ turnedOf 4 (bits % 16) ⌝ }
 {
-    match b {
-        b'0' => 0,
-        b'1' => 8,
-        b'2' => 4,
-        b'3' => 12,
-        b'4' => 2,
-        b'5' => 10,
-        b'6' => 6,
-        b'7' => 14,
-        b'8' => 1,
-        b'9' => 9,
-        b'U' => 13,
-        b' ' => 3,
-        b'-' => 11,
-        b']' => 7,
-        b'[' => 15,
-        _ => 0,
+    match bits % 16 {
+        0 => 0,
+        1 => 8,
+        2 => 4,
+        3 => 12,
+        4 => 2,
+        5 => 10,
+        6 => 6,
+        7 => 14,
+        8 => 1,
+        9 => 9,
+        10 => 5,
+        11 => 13,
+        12 => 3,
+        13 => 11,
+        14 => 7,
+        _ => 15,
+    }
+}
+
+// The value of a numeric character; 0 for any other byte.
+fn value_or_zero(b: u8) -> u8
+    ensures { λ r. ⌜ r ≡ valueOf Numeric b ⌝ }
+{
+    let v = numeric_value(b);
+    match v {
+        NumericValue::Value(n) => n,
+        NumericValue::NotNumeric => 0,
     }
 }
 
@@ -182,7 +193,7 @@ fn char_bits(c: Coding, text: &[u8], k: usize) -> u32
     ensures { λ r. ⌜ r ≡ turnedOf (widthOf c) (valueOf c (getD (bytesOf (now (text .entry))) k (fillOf c))) ⌝ }
 {
     match c {
-        Coding::Numeric => turned_numeric(base::pair_byte(text, k, b' ')),
+        Coding::Numeric => turned_bits(value_or_zero(base::pair_byte(text, k, b' ')) as u32) as u32,
         Coding::Alphanumeric => {
             if text.len() / 2 <= k {
                 return 0;
@@ -271,30 +282,6 @@ fn bits_digit(bits: u32) -> u8
         13 => b'B',
         14 => b'7',
         _ => b'F',
-    }
-}
-
-// Four bits turned round, by one arm a value too.
-fn turned_bits(bits: u32) -> u8
-    ensures { λ r. ⌜ r ≡ turnedOf 4 (bits % 16) ⌝ }
-{
-    match bits % 16 {
-        0 => 0,
-        1 => 8,
-        2 => 4,
-        3 => 12,
-        4 => 2,
-        5 => 10,
-        6 => 6,
-        7 => 14,
-        8 => 1,
-        9 => 9,
-        10 => 5,
-        11 => 13,
-        12 => 3,
-        13 => 11,
-        14 => 7,
-        _ => 15,
     }
 }
 
