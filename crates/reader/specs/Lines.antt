@@ -3,8 +3,8 @@ use mathlib.Core.Bool.{cond}
 use mathlib.Core.List.{List, [], _∷_, _++_}
 use Prim.Native.Nat.{ℕ, _+_}
 use lib.Dec.{eqb}
-use Rattle.base.specs.Hex.{digitsOf, pairsOf}
-use Rattle.text.specs.Heard.{heardText}
+use Rattle.base.specs.Hex.{digitsOf}
+use Rattle.text.specs.Answer.{heardDigits}
 use Rattle.text.specs.declared.Coding.the-variants.{Numeric, Alphanumeric}
 use Rattle.job.specs.Print.{printed}
 use Rattle.reader.specs.Reading.{Hearing}
@@ -21,7 +21,7 @@ fives (g ∷ gs) = digitsOf 5 g ++ fives gs
 
 -- the digits of its text: pairs for numeric and alphanumeric characters, five digits a word behind functions 1 and 2
 abbrev pub digitsHeard : ℕ → List ℕ → List ℕ
-digitsHeard f gs = cond (eqb f 0) (pairsOf (heardText Numeric gs)) (cond (eqb f 3) (pairsOf (heardText Alphanumeric gs)) (fives gs))
+digitsHeard f gs = cond (eqb f 0) (heardDigits Numeric gs) (cond (eqb f 3) (heardDigits Alphanumeric gs) (fives gs))
 
 -- the line of a page that was heard
 abbrev pub lineHeard : Hearing → List ℕ

@@ -5,6 +5,7 @@ ghost use lib.ListN.{length};
 ghost use Rattle.base.specs.Lists.{over};
 ghost use Rattle.codeword.specs.Nearest.{nearest};
 ghost use Rattle.listing.specs.Words.{wordsOf};
+ghost use Rattle.text.specs.Answer.{heardDigits};
 ghost use Rattle.reader.specs.Meaning.{codewordMeaning, meaning, isSync};
 ghost use Rattle.reader.specs.Changed.{unlessLost, slotChanged, slotsChanged, syncsChanged};
 ghost use Rattle.reader.specs.Reading.{closedAs, slotWord, syncWord};
@@ -17,6 +18,7 @@ use codeword::Correction;
 use codeword::Engine;
 use job::Printing;
 use text::Coding;
+use text::Digits;
 
 // What a received word says.
 pub enum Meaning {
@@ -203,6 +205,18 @@ fn write_groups(groups: &[u32], digits: &mut [u8]) -> usize
     5 * n
 }
 
+// Writes a text as pairs of digits, and answers how many digits they are.
+fn write_text(c: Coding, groups: &[u32], digits: &mut [u8]) -> usize
+    requires { ⌜ 10 * length (now groups) ≤ length (now digits) ⌝ }
+    ensures { λ r. ⌜ r ≡ length (heardDigits c (now (groups .entry))) ⌝ }
+    ensures { λ _. ⌜ now (digits .exit) ≡ over (now (digits .entry)) (heardDigits c (now (groups .entry))) ⌝ }
+{
+    let Digits::Written(n) = text::write_heard(c, groups, digits) else {
+        return 0;
+    };
+    n
+}
+
 // Writes the digits of a page's text, and answers how many they are.
 fn write_page(function: u8, groups: &[u32], digits: &mut [u8]) -> usize
     requires { ⌜ 10 * length (now groups) ≤ length (now digits) ⌝ }
@@ -210,8 +224,8 @@ fn write_page(function: u8, groups: &[u32], digits: &mut [u8]) -> usize
     ensures { λ _. ⌜ now (digits .exit) ≡ over (now (digits .entry)) (digitsHeard function (now (groups .entry))) ⌝ }
 {
     match function {
-        0 => text::write_heard(Coding::Numeric, groups, digits),
-        3 => text::write_heard(Coding::Alphanumeric, groups, digits),
+        0 => write_text(Coding::Numeric, groups, digits),
+        3 => write_text(Coding::Alphanumeric, groups, digits),
         _ => write_groups(groups, digits),
     }
 }

@@ -2,13 +2,14 @@
 // A text is handed in as it stands in a job: pairs of upper-case hexadecimal digits.
 ghost use mathlib.Core.Path.{_≡_};
 ghost use Prim.Native.Nat.{_*_, _%_, _≤_, _<_};
-ghost use lib.ListN.{length, getD};
-ghost use Rattle.base.specs.Hex.{hexOf, digitOf, bytesOf, pairsOf};
+ghost use lib.ListN.{length, getD, take};
+ghost use Rattle.base.specs.Hex.{hexOf, digitOf, bytesOf};
 ghost use Rattle.base.specs.Lists.{over, tab};
 ghost use Rattle.text.specs.Numeric.{numericOf, numericByte};
 ghost use Rattle.text.specs.Coding.{isNumeric, charOk, isText, endsInSpace, widthOf, fillOf, valueOf, turnedOf, groupOf, groupsOf};
 ghost use Rattle.text.specs.Packing.{Few, Refilled};
 ghost use Rattle.text.specs.Heard.{charHeard, ends, heardText};
+ghost use Rattle.text.specs.Answer.{heardDigits, heardInto, countOf};
 ghost use Rattle.text.specs.Window.{More};
 ghost use Rattle.text.specs.declared.Coding.the-variants.{Numeric, Alphanumeric};
 
@@ -153,27 +154,38 @@ fn turned_digit(b: u8) -> u32
     }
 }
 
-// Table III from the byte to the value with its four bits turned round; 0 for any other byte.
-fn turned_numeric(b: u8) -> u32
-    ensures { λ r. ⌜ r ≡ turnedOf 4 (valueOf Numeric b) ⌝ }
+// Four bits turned round. One arm a value: a table, where turning them would be a loop.
+fn turned_bits(bits: u32) -> u8
+    ensures { λ r. ⌜ r ≡ turnedOf 4 (bits % 16) ⌝ }
 {
-    match b {
-        b'0' => 0,
-        b'1' => 8,
-        b'2' => 4,
-        b'3' => 12,
-        b'4' => 2,
-        b'5' => 10,
-        b'6' => 6,
-        b'7' => 14,
-        b'8' => 1,
-        b'9' => 9,
-        b'U' => 13,
-        b' ' => 3,
-        b'-' => 11,
-        b']' => 7,
-        b'[' => 15,
-        _ => 0,
+    match bits % 16 {
+        0 => 0,
+        1 => 8,
+        2 => 4,
+        3 => 12,
+        4 => 2,
+        5 => 10,
+        6 => 6,
+        7 => 14,
+        8 => 1,
+        9 => 9,
+        10 => 5,
+        11 => 13,
+        12 => 3,
+        13 => 11,
+        14 => 7,
+        _ => 15,
+    }
+}
+
+// The value of a numeric character; 0 for any other byte.
+fn value_or_zero(b: u8) -> u8
+    ensures { λ r. ⌜ r ≡ valueOf Numeric b ⌝ }
+{
+    let v = numeric_value(b);
+    match v {
+        NumericValue::Value(n) => n,
+        NumericValue::NotNumeric => 0,
     }
 }
 
@@ -182,7 +194,7 @@ fn char_bits(c: Coding, text: &[u8], k: usize) -> u32
     ensures { λ r. ⌜ r ≡ turnedOf (widthOf c) (valueOf c (getD (bytesOf (now (text .entry))) k (fillOf c))) ⌝ }
 {
     match c {
-        Coding::Numeric => turned_numeric(base::pair_byte(text, k, b' ')),
+        Coding::Numeric => turned_bits(value_or_zero(base::pair_byte(text, k, b' ')) as u32) as u32,
         Coding::Alphanumeric => {
             if text.len() / 2 <= k {
                 return 0;
@@ -250,7 +262,7 @@ pub fn groups(c: Coding, count: u16) -> usize
     ((count as usize) * w + 19) / 20
 }
 
-// The hexadecimal digit of four bits, the lowest first. One arm a value: a table, where turning them round would be a loop.
+// The hexadecimal digit of four bits, the lowest first: a table too.
 fn bits_digit(bits: u32) -> u8
     ensures { λ r. ⌜ r ≡ digitOf (turnedOf 4 (bits % 16)) ⌝ }
 {
@@ -271,30 +283,6 @@ fn bits_digit(bits: u32) -> u8
         13 => b'B',
         14 => b'7',
         _ => b'F',
-    }
-}
-
-// Four bits turned round, by one arm a value too.
-fn turned_bits(bits: u32) -> u8
-    ensures { λ r. ⌜ r ≡ turnedOf 4 (bits % 16) ⌝ }
-{
-    match bits % 16 {
-        0 => 0,
-        1 => 8,
-        2 => 4,
-        3 => 12,
-        4 => 2,
-        5 => 10,
-        6 => 6,
-        7 => 14,
-        8 => 1,
-        9 => 9,
-        10 => 5,
-        11 => 13,
-        12 => 3,
-        13 => 11,
-        14 => 7,
-        _ => 15,
     }
 }
 
@@ -323,8 +311,8 @@ fn numeric_length(groups: &[u32]) -> usize
 // Writes the numeric text of groups as pairs of digits, and answers how many digits they are.
 fn write_numeric(groups: &[u32], digits: &mut [u8]) -> usize
     requires { ⌜ 10 * length (now groups) ≤ length (now digits) ⌝ }
-    ensures { λ r. ⌜ r ≡ length (pairsOf (heardText Numeric (now (groups .entry)))) ⌝ }
-    ensures { λ _. ⌜ now (digits .exit) ≡ over (now (digits .entry)) (pairsOf (heardText Numeric (now (groups .entry)))) ⌝ }
+    ensures { λ r. ⌜ r ≡ length (heardDigits Numeric (now (groups .entry))) ⌝ }
+    ensures { λ _. ⌜ now (digits .exit) ≡ over (now (digits .entry)) (heardDigits Numeric (now (groups .entry))) ⌝ }
 {
     let n = numeric_length(groups);
     let mut i = 0;
@@ -369,8 +357,8 @@ fn ends_text(bits: u32) -> bool
 // Writes the alphanumeric text of groups as pairs of digits, and answers how many digits they are.
 fn write_alphanumeric(groups: &[u32], digits: &mut [u8]) -> usize
     requires { ⌜ 10 * length (now groups) ≤ length (now digits) ⌝ }
-    ensures { λ r. ⌜ r ≡ length (pairsOf (heardText Alphanumeric (now (groups .entry)))) ⌝ }
-    ensures { λ _. ⌜ now (digits .exit) ≡ over (now (digits .entry)) (pairsOf (heardText Alphanumeric (now (groups .entry)))) ⌝ }
+    ensures { λ r. ⌜ r ≡ length (heardDigits Alphanumeric (now (groups .entry))) ⌝ }
+    ensures { λ _. ⌜ now (digits .exit) ≡ over (now (digits .entry)) (heardDigits Alphanumeric (now (groups .entry))) ⌝ }
 {
     let mut b = Bits {
         window: 0,
@@ -394,14 +382,25 @@ fn write_alphanumeric(groups: &[u32], digits: &mut [u8]) -> usize
     }
 }
 
-// Writes the text of groups as pairs of digits, and answers how many digits they are.
-pub fn write_heard(c: Coding, groups: &[u32], digits: &mut [u8]) -> usize
-    requires { ⌜ 10 * length (now groups) ≤ length (now digits) ⌝ }
-    ensures { λ r. ⌜ r ≡ length (pairsOf (heardText c (now (groups .entry)))) ⌝ }
-    ensures { λ _. ⌜ now (digits .exit) ≡ over (now (digits .entry)) (pairsOf (heardText c (now (groups .entry)))) ⌝ }
+// What writing the text of groups answers.
+pub enum Digits {
+    // How many digits are written.
+    Written(usize),
+    // The lent slice has fewer than ten digits a group: number 10.
+    NoRoom,
+}
+
+// Writes the text of groups as pairs of digits over the front of the slice. It asks for ten digits a group, the most that a group's five
+// characters take, whatever the text is.
+pub fn write_heard(c: Coding, groups: &[u32], digits: &mut [u8]) -> Digits
+    ensures { λ r. ⌜ r ≡ heardInto c (now (groups .entry)) (length (now (digits .entry))) ⌝ }
+    ensures { λ r. ⌜ now (digits .exit) ≡ over (now (digits .entry)) (take (countOf r) (heardDigits c (now (groups .entry)))) ⌝ }
 {
+    if digits.len() / 10 < groups.len() {
+        return Digits::NoRoom;
+    }
     match c {
-        Coding::Numeric => write_numeric(groups, digits),
-        Coding::Alphanumeric => write_alphanumeric(groups, digits),
+        Coding::Numeric => Digits::Written(write_numeric(groups, digits)),
+        Coding::Alphanumeric => Digits::Written(write_alphanumeric(groups, digits)),
     }
 }

@@ -9,6 +9,7 @@ use libc::STDIN_FILENO;
 use libc::STDOUT_FILENO;
 use reader::Reading;
 use text::Coding;
+use text::Digits;
 use transmission::Report;
 
 fn print(s: &[u8]) {
@@ -108,7 +109,9 @@ fn heard(line: &[u8]) {
 
 fn print_heard(coding: Coding, groups: &[u32; 2]) {
     let mut digits = [0u8; 20];
-    let n = text::write_heard(coding, groups, &mut digits);
+    let Digits::Written(n) = text::write_heard(coding, groups, &mut digits) else {
+        return;
+    };
     let mut i: usize = 0;
     while i < n / 2 {
         print(&[base::pair_byte(&digits, i, 0)]);

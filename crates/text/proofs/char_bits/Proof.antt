@@ -1,6 +1,6 @@
 -- `text::char_bits` meets its contract. Assumes nothing.
 use mathlib.Core.Path.{sym, ap, _∙_}
-use Prim.Native.Nat.{ℕ, _+_, _*_}
+use Prim.Native.Nat.{ℕ, _+_, _*_, _%_}
 use native.Mathlib.Omega.{arith}
 use denote.Ref.{now}
 use lib.ListN.{getD, List·getD-eq-default}
@@ -8,7 +8,7 @@ use Rattle.base.specs.Hex.{hexOf, bytesOf}
 use Rattle.base.proofs.HexLaws.{hex-small, bytes-at, bytes-length}
 use Rattle.text.specs.Coding.{valueOf, bitsFrom, turnedOf}
 use Rattle.text.specs.declared.Coding.the-variants.{Numeric}
-use Rattle.text.proofs.PackLaws.{turned-small, turned-pair}
+use Rattle.text.proofs.PackLaws.{turned-cut, turned-small, turned-pair}
 use borrow.Author.Needs.{needs}
 use Rattle.text.proofs.char_bits.Statement.{statement}
 use Rattle.text.proofs.char_bits.Tie as tie
@@ -19,8 +19,17 @@ enum-told c = search needs
 pair-byte-requires : tie.Need-pair-byte-requires
 pair-byte-requires c κs = search needs
 
-turned-numeric-requires : tie.Need-turned-numeric-requires
-turned-numeric-requires c κs = search needs
+value-or-zero-requires : tie.Need-value-or-zero-requires
+value-or-zero-requires c κs = search needs
+
+cast-turned-bits : tie.Need-cast-turned-bits
+cast-turned-bits c = search needs
+
+turned-bits-requires : tie.Need-turned-bits-requires
+turned-bits-requires c κs = search needs
+
+cast-result : tie.Need-cast-result
+cast-result c = search needs
 
 enum-told-2 : tie.Need-enum-told-2
 enum-told-2 c = search needs
@@ -63,7 +72,11 @@ add-result c =
     omega (arith, c .before .before .turned-digit .ensures, turned-small 4 (hexOf (getD (now (a .text)) (2 * a .k + 1) 0)))
 
 returns-2 : tie.Need-returns-2
-returns-2 c = rw (c .before .before .enum-told .given .1) (c .turned-numeric .ensures ∙ ap (λ (b : ℕ). turnedOf 4 (valueOf Numeric b)) (c .before .pair-byte .ensures))
+returns-2 c =
+    let a = c .before .before .before .before .before .before .args in
+    let b = getD (bytesOf (now (a .text))) (a .k) 32 in
+    let value = c .before .value-or-zero .ensures ∙ ap (valueOf Numeric) (c .before .before .pair-byte .ensures) in
+    rw (c .before .before .before .enum-told .given .1) (c .turned-bits .ensures ∙ ap (λ (v : ℕ). turnedOf 4 (v % 16)) value ∙ turned-cut 4 (valueOf Numeric b))
 
 returns-3 : tie.Need-returns-3
 returns-3 c =
@@ -78,7 +91,10 @@ char-bits-spec =
     (tie.spec
     enum-told
     pair-byte-requires
-    turned-numeric-requires
+    value-or-zero-requires
+    cast-turned-bits
+    turned-bits-requires
+    cast-result
     enum-told-2
     returns
     mul-turned-digit

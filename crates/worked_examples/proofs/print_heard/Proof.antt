@@ -16,6 +16,15 @@ slice-aggregate-write-heard c = search needs
 write-heard-requires : tie.Need-write-heard-requires Inv-loop μ-loop
 write-heard-requires c κs = search needs
 
+enum-known-n : tie.Need-enum-known-n Inv-loop μ-loop
+enum-known-n c = search needs
+
+enum-told : tie.Need-enum-told Inv-loop μ-loop
+enum-told c = search needs
+
+returns : tie.Need-returns Inv-loop μ-loop
+returns c = search needs
+
 loop-holds : tie.Need-loop-holds Inv-loop μ-loop
 loop-holds c = search needs
 
@@ -40,8 +49,8 @@ loop-less c = search needs
 loop-again : tie.Need-loop-again Inv-loop μ-loop
 loop-again c = search needs
 
-returns : tie.Need-returns Inv-loop μ-loop
-returns c = search needs
+returns-2 : tie.Need-returns-2 Inv-loop μ-loop
+returns-2 c = search needs
 
 pub print-heard-spec : {M : Type 1} → statement M
 print-heard-spec =
@@ -51,6 +60,9 @@ print-heard-spec =
     μ-loop
     slice-aggregate-write-heard
     write-heard-requires
+    enum-known-n
+    enum-told
+    returns
     loop-holds
     slice-aggregate-pair-byte
     pair-byte-requires
@@ -59,4 +71,4 @@ print-heard-spec =
     add-i
     loop-less
     loop-again
-    returns)
+    returns-2)

@@ -1,0 +1,33 @@
+-- What writing the text of groups into a lent slice answers.
+use Prim.Native.Nat.{ℕ, _*_}
+use mathlib.Core.Bool.{cond}
+use mathlib.Core.List.{List}
+use lib.Dec.{ltb}
+use lib.ListN.{length}
+use Rattle.base.specs.Hex.{pairsOf}
+use Rattle.text.specs.Heard.{heardText}
+use Rattle.text.specs.declared.Coding.{Coding}
+use Rattle.text.specs.declared.Digits.{Digits}
+use Rattle.text.specs.declared.Digits.the-variants.{Written, NoRoom}
+
+-- the text of groups as pairs of digits
+abbrev pub heardDigits : Coding → List ℕ → List ℕ
+heardDigits c gs = pairsOf (heardText c gs)
+
+-- into room for so many digits: all of them, or number 10 where there are fewer than ten a group
+abbrev pub heardInto : Coding → List ℕ → ℕ → Digits
+heardInto c gs room = cond (ltb room (10 * length gs)) NoRoom (Written (length (heardDigits c gs)))
+
+-- the number of an answer in document 01's table, 0 where the digits are written
+abbrev pub numberOf : Digits → ℕ
+numberOf (Written n) = 0
+numberOf NoRoom = 10
+
+-- its place
+abbrev pub placeOf : Digits → ℕ
+placeOf a = 0
+
+-- how many digits are written: none where it is declined
+abbrev pub countOf : Digits → ℕ
+countOf (Written n) = n
+countOf NoRoom = 0
