@@ -19,6 +19,11 @@ numberOf (Corrected c n) = 0
 abbrev pub placeOf : Correction → ℕ
 placeOf r = 0
 
+-- the corrected word; the received word w itself where it is refused
+abbrev pub wordRead : ℕ → Correction → ℕ
+wordRead w Refused = w
+wordRead w (Corrected c n) = c .0
+
 -- how many bits are changed; zero where the word is refused
 abbrev pub changedOf : Correction → ℕ
 changedOf Refused = 0

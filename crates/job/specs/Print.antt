@@ -30,12 +30,16 @@ printed identity kind digits cut = headOf identity kind ++ (spaced digits ++ end
 abbrev pub printingOf : ℕ → List ℕ → Printing
 printingOf room line = cond (ltb room (length line)) NoRoom (Printed (length line))
 
--- what is written: the line, or nothing
-abbrev pub written : Printing → List ℕ → List ℕ
-written (Printed n) line = line
-written NoRoom line = []
+-- how many bytes of the line are written: all, or none
+abbrev pub bytesPrinted : Printing → ℕ
+bytesPrinted (Printed n) = n
+bytesPrinted NoRoom = 0
 
--- the refusal's number in document 01's table, or 0; its place is 0
+-- the number in document 01's table, 0 where the line is printed
 abbrev pub numberOf : Printing → ℕ
 numberOf (Printed n) = 0
 numberOf NoRoom = 10
+
+-- the place of number 10 is 0
+abbrev pub placeOf : Printing → ℕ
+placeOf r = 0

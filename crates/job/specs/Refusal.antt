@@ -24,6 +24,11 @@ abbrev pub jobNumber : JobAnswer → ℕ
 jobNumber (Accepted n) = 0
 jobNumber (Refused why place) = numberOf why
 
+-- how many pages an accepted job has; 0 for a refused one
+abbrev pub jobPages : JobAnswer → ℕ
+jobPages (Accepted n) = n
+jobPages (Refused why place) = 0
+
 -- the place of a job's answer; 0 for an accepted job
 abbrev pub jobPlace : JobAnswer → ℕ
 jobPlace (Accepted n) = 0

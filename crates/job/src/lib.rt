@@ -10,7 +10,7 @@ ghost use Rattle.job.specs.Refusal.{numberOf, jobNumber, jobPlace};
 ghost use Rattle.job.specs.Line.{isPairs, headFormed, tailFormed, isReserved, longestOf, codingOf, functionOf, isForeign, tonePageOf, textPageOf, kindPageOf, pageOf, lineOf};
 ghost use Rattle.job.specs.Pages.{pagesOf};
 ghost use Rattle.base.specs.Lists.{over};
-ghost use Rattle.job.specs.Print.{headOf, spaced, ending, printed, printingOf, written};
+ghost use Rattle.job.specs.Print.{headOf, spaced, ending, printed, printingOf, bytesPrinted};
 ghost use Rattle.job.specs.Job.{judge, tableOf, answerWith, readingOf};
 ghost use Rattle.job.specs.declared.Refusal.the-variants.{Malformed};
 ghost use Rattle.job.specs.declared.LineAnswer.the-variants.{Faulty};
@@ -32,7 +32,7 @@ pub enum Refusal {
 }
 
 // What a page line says.
-pub enum LineAnswer {
+enum LineAnswer {
     // A page: its identity, its kind, and how many characters its text has.
     Good(u32, u8, usize),
     Faulty(Refusal),
@@ -255,7 +255,7 @@ fn judge_tail(identity: u32, kind: u8, t: &[u8]) -> LineAnswer
 }
 
 // What a line, without its newline, says.
-pub fn read_line(line: &[u8]) -> LineAnswer
+fn read_line(line: &[u8]) -> LineAnswer
     ensures { λ r. ⌜ r ≡ lineOf (now (line .entry)) ⌝ }
 {
     if !head_formed(line) {
@@ -358,7 +358,7 @@ pub enum Printing {
 // of the slice. Only the low six digits of the identity and the low digit of the kind are printed.
 pub fn print_line(out: &mut [u8], identity: u32, kind: u8, digits: &[u8], cut: bool) -> Printing
     ensures { λ r. ⌜ r ≡ printingOf (length (now (out .entry))) (printed identity kind (now (digits .entry)) cut) ⌝ }
-    ensures { λ r. ⌜ now (out .exit) ≡ over (now (out .entry)) (written r (printed identity kind (now (digits .entry)) cut)) ⌝ }
+    ensures { λ r. ⌜ now (out .exit) ≡ over (now (out .entry)) (take (bytesPrinted r) (printed identity kind (now (digits .entry)) cut)) ⌝ }
 {
     let end = 8 + spaced_length(digits);
     let n = end + ending_length(cut);

@@ -5,7 +5,7 @@ use mathlib.Core.Bool.{Bool, true, false, cond}
 use mathlib.Core.List.{List}
 use native.Mathlib.Omega.{arith}
 use lib.ListN.{length, take, drop}
-use lib.Seq.{take-at}
+use lib.Seq.{take-all, take-at}
 use lib.Dec.{ltb}
 use borrow.Author.Tests.{le-ltb}
 use Rattle.base.specs.Lists.{over}
@@ -14,7 +14,7 @@ use Rattle.job.specs.declared.Refusal.{Refusal}
 use Rattle.job.specs.declared.JobAnswer.{JobAnswer}
 use Rattle.job.specs.declared.JobAnswer.the-variants.{Accepted, Refused}
 use Rattle.listing.specs.Text.{textOf}
-use Rattle.listing.specs.Answers.{writingOf}
+use Rattle.listing.specs.Writing.{writingOf, bytesWritten}
 use Rattle.listing.specs.declared.Writing.{Writing}
 use Rattle.listing.specs.declared.Writing.the-variants as writing
 use Rattle.listing.proofs.TextLaws.{text-length}
@@ -25,7 +25,7 @@ use Rattle.transmission.specs.Report.{answered, reportOf}
 use Rattle.transmission.specs.declared.Report.the-variants as report
 use Rattle.transmission.proofs.Sendings.{accepted-sendings, sendings-limits}
 use Rattle.transmission.proofs.TransmissionLaws.{transmission-length}
-use Rattle.job_listing.specs.Listed.{listingText, writtenInto, listedOf}
+use Rattle.job_listing.specs.Listed.{listingText, writtenInto, listedOf, bytesListed}
 use Rattle.job_listing.specs.declared.Listed.{Listed}
 use Rattle.job_listing.specs.declared.Listed.the-variants.{Written, Declined, NoRoom}
 
@@ -41,6 +41,14 @@ written-is ws room = rw (text-length 0 ws) (go (ltb room (9 * length ws)))
     go : (b : Bool) → asListed (cond b writing.NoRoom (writing.Bytes (9 * length ws))) ≡ cond b NoRoom (Written (9 * length ws))
     go true = refl
     go false = refl
+
+-- what is written of the text
+pub front-written : (ws : List ℕ) (room : ℕ) → take (bytesWritten (writingOf ws room)) (textOf ws) ≡ bytesListed (asListed (writingOf ws room)) (textOf ws)
+front-written ws room = go (ltb room (9 * length ws))
+  where
+    go : (b : Bool) → take (bytesWritten (cond b writing.NoRoom (writing.Bytes (9 * length ws)))) (textOf ws) ≡ bytesListed (asListed (cond b writing.NoRoom (writing.Bytes (9 * length ws)))) (textOf ws)
+    go true = refl
+    go false = take-all (9 * length ws) (textOf ws) (omega (arith, text-length 0 ws))
 
 -- ---- a job's answer, where its report is known
 

@@ -37,6 +37,12 @@ bytesListed (Written n) text = text
 bytesListed (Declined why place) text = []
 bytesListed NoRoom text = []
 
+-- how many bytes the listing takes: none where the job is declined
+abbrev pub countListed : Listed → ℕ
+countListed (Written n) = n
+countListed (Declined why place) = 0
+countListed NoRoom = 0
+
 -- the number of an answer in document 01's table, 0 where the listing is written; and its place
 abbrev pub numberOf : Listed → ℕ
 numberOf (Written n) = 0

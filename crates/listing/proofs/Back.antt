@@ -9,7 +9,7 @@ use native.Mathlib.Omega.{arith}
 use borrow.Author.Tests.{eq-eqb, ne-eqb, eqb-true, eqb-false, lt-ltb, le-ltb}
 use lib.Dec.{eqb}
 use lib.ListN.{length, getD, take, drop, drop-of-length-le, length-drop}
-use lib.Seq.{drop-cons, drop-drop, getD-drop, take-at}
+use lib.Seq.{drop-cons, drop-drop, getD-drop, take-all, take-at}
 use Rattle.base.specs.Hex.{isHex}
 use Rattle.base.specs.Leading.{leading}
 use Rattle.base.specs.Lines.{split}
@@ -19,7 +19,7 @@ use Rattle.base.proofs.HexLaws.{digits-hex, digits-back}
 use Rattle.listing.specs.Text.{opensFrame, endOf, textOf}
 use Rattle.listing.specs.Listing.{framesIn, preambleOf, isDue, batches, listingOf}
 use Rattle.listing.specs.Scan.{lineFrom}
-use Rattle.listing.specs.Answers.{writingOf}
+use Rattle.listing.specs.Writing.{writingOf}
 use Rattle.listing.specs.ReadBack.{OfBatches, ReadBack}
 use Rattle.listing.specs.declared.Listing.the-variants.{WellFormed}
 use Rattle.listing.specs.declared.Writing.the-variants.{Bytes}
@@ -168,7 +168,7 @@ read-back ws b t =
       writing =
           λ old room.
           let answer : writingOf ws (length old) ≡ Bytes (9 * length ws) = rw (le-ltb (length old) (9 * length ws) room) in
-          (answer, rw answer (take-at text _ (9 * length ws) (text-length 0 ws)));
+          (answer, rw (answer, take-all (9 * length ws) text (omega (arith, text-length 0 ws))) (take-at text _ (9 * length ws) (text-length 0 ws)));
       form = form;
       batches = batches;
     }

@@ -6,7 +6,7 @@ use lib.ListN.{length, getD, take, drop}
 use Rattle.listing.specs.Text.{textOf}
 use Rattle.listing.specs.Listing.{listingOf}
 use Rattle.listing.specs.Words.{wordsOf}
-use Rattle.listing.specs.Answers.{writingOf, afterWrite}
+use Rattle.listing.specs.Writing.{writingOf, afterWrite}
 use Rattle.listing.specs.declared.Listing.the-variants.{WellFormed}
 use Rattle.listing.specs.declared.Writing.the-variants.{Bytes}
 

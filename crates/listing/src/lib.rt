@@ -7,7 +7,8 @@ ghost use Rattle.base.specs.Lines.{split};
 ghost use Rattle.base.specs.Lists.{over};
 ghost use Rattle.listing.specs.Text.{endOf};
 ghost use Rattle.listing.specs.Listing.{hasOne, hasTwo, preambleOf, isDue, batches, listingOf};
-ghost use Rattle.listing.specs.Answers.{numberOf, placeOf, decodedOf, writingOf, afterWrite};
+ghost use Rattle.listing.specs.Answers.{numberOf, placeOf, decodedOf};
+ghost use Rattle.listing.specs.Writing.{writingOf, afterWrite};
 ghost use Rattle.listing.specs.Scan.{lineFrom, wordsIf, wordsMet, wordsDecoded};
 ghost use Rattle.listing.specs.declared.Fault.the-variants.{Malformed, TooMany};
 use base::HexWord;
@@ -41,23 +42,35 @@ pub enum Writing {
     NoRoom,
 }
 
-// The number of a fault in the table.
-pub fn number(why: Fault) -> u32
-    ensures { λ r. ⌜ r ≡ numberOf why ⌝ }
+// The number of a byte string in the table; 0 where it is a listing.
+pub fn number(l: Listing) -> u32
+    ensures { λ r. ⌜ r ≡ numberOf l ⌝ }
 {
-    match why {
-        Fault::Malformed(_) => 21,
-        Fault::TooMany(_) => 23,
+    match l {
+        Listing::WellFormed {
+            preamble: _,
+            batches: _,
+        } => 0,
+        Listing::Declined(why) => match why {
+            Fault::Malformed(_) => 21,
+            Fault::TooMany(_) => 23,
+        },
     }
 }
 
-// The place of a fault.
-pub fn place(why: Fault) -> usize
-    ensures { λ r. ⌜ r ≡ placeOf why ⌝ }
+// Its place; 0 where it is a listing.
+pub fn place(l: Listing) -> usize
+    ensures { λ r. ⌜ r ≡ placeOf l ⌝ }
 {
-    match why {
-        Fault::Malformed(line) => line,
-        Fault::TooMany(line) => line,
+    match l {
+        Listing::WellFormed {
+            preamble: _,
+            batches: _,
+        } => 0,
+        Listing::Declined(why) => match why {
+            Fault::Malformed(line) => line,
+            Fault::TooMany(line) => line,
+        },
     }
 }
 

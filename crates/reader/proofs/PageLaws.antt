@@ -8,7 +8,7 @@ use native.Mathlib.Omega.{arith}
 use lib.Dec.{eqb}
 use lib.Pow.{field, mod-mod-pow}
 use lib.ListN.{length, getD, take, drop, length-drop, length-map, List·getD-map}
-use lib.Seq.{length-take-le}
+use lib.Seq.{length-take-le, take-length}
 use borrow.Author.Tests.{le-ltb}
 use Rattle.base.specs.Hex.{digitsOf, pairsOf}
 use Rattle.base.specs.Lists.{over, tab}
@@ -20,7 +20,7 @@ use Rattle.text.specs.declared.Coding.the-variants.{Numeric, Alphanumeric}
 use Rattle.text.proofs.BitLaws.{low-same, cut-bit}
 use Rattle.text.proofs.HeardLaws.{heard-fits}
 use Rattle.text.proofs.PairLaws.{pairs-length}
-use Rattle.job.specs.Print.{ending, printed, printingOf, written}
+use Rattle.job.specs.Print.{ending, printed, printingOf, bytesPrinted}
 use Rattle.job.specs.declared.Printing.{Printing}
 use Rattle.job.specs.declared.Printing.the-variants.{Printed, NoRoom}
 use Rattle.job.proofs.PrintLaws.{spaced-few, ending-few, printed-length}
@@ -135,11 +135,11 @@ module _ (symbols : List ℕ) (a s : ℕ) (cut : Bool) where
 
 -- a line that there is room for is printed
 pub line-printed : (old line : List ℕ) {given out : List ℕ} {answer : Printing} → length line ≤ length old → given ≡ line
-    → answer ≡ printingOf (length old) given → out ≡ over old (written answer given) → (answer ≡ Printed (length line)) × (out ≡ over old line)
+    → answer ≡ printingOf (length old) given → out ≡ over old (take (bytesPrinted answer) given) → (answer ≡ Printed (length line)) × (out ≡ over old line)
 line-printed old line h e a o =
     let printed : printingOf (length old) line ≡ Printed (length line) = rw (le-ltb (length old) (length line) h) in
     let all = a ∙ ap (printingOf (length old)) e ∙ printed in
-    (all, o ∙ ap (over old) (ap₂ written all e))
+    (all, o ∙ ap (over old) (ap₂ (λ (p : Printing) (l : List ℕ). take (bytesPrinted p) l) all e ∙ take-length line))
 
 pub no-room-printed : {n : ℕ} → NoRoom ≡ Printed n → ⊥
 no-room-printed e = let z : _≡_ {A = ℕ} 0 1 = cc in omega arith

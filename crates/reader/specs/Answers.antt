@@ -15,6 +15,7 @@ use Rattle.listing.specs.declared.Listing.the-variants as listing
 use Rattle.reader.specs.Meaning.{isSync}
 use Rattle.reader.specs.Reading.{Heard, syncWord, heardIn}
 use Rattle.reader.specs.Lines.{linesHeard}
+use Rattle.reader.specs.declared.Changes.{Changes}
 use Rattle.reader.specs.declared.Fault.{Fault}
 use Rattle.reader.specs.declared.Fault.the-variants.{Malformed, TooMany, Unsynced, NoRoom}
 use Rattle.reader.specs.declared.Reading.{Reading}
@@ -68,6 +69,27 @@ linesOf (Declined why) h = []
 -- what is written over the front of the bytes: the lines of these words, or nothing
 abbrev pub linesRead : Reading → List ℕ → List ℕ
 linesRead r words = linesOf r (heardIn words)
+
+-- the values of a reading, zero where it is declined: pages, lost words, orphans, changed bits, and how many bytes of lines are written
+abbrev pub pagesRead : Reading → ℕ
+pagesRead (Read pages lost orphans changed bytes) = pages
+pagesRead (Declined why) = 0
+
+abbrev pub lostRead : Reading → ℕ
+lostRead (Read pages lost orphans changed bytes) = lost
+lostRead (Declined why) = 0
+
+abbrev pub orphansRead : Reading → ℕ
+orphansRead (Read pages lost orphans changed bytes) = orphans
+orphansRead (Declined why) = 0
+
+abbrev pub changedRead : Reading → Changes
+changedRead (Read pages lost orphans changed bytes) = changed
+changedRead (Declined why) = record { slots = 0; syncs = 0 }
+
+abbrev pub bytesRead : Reading → ℕ
+bytesRead (Read pages lost orphans changed bytes) = bytes
+bytesRead (Declined why) = 0
 
 -- the number of a reading in document 01's table, 0 where it is read
 abbrev pub numberOf : Reading → ℕ

@@ -1,18 +1,18 @@
 -- `card::listed_numbers` meets its contract. Assumes nothing.
 use mathlib.Core.Path.{_≡_, sym, ap}
 use Prim.Native.Nat.{ℕ}
-use Rattle.job_listing.specs.Listed.{placeOf, numberOf}
+use Rattle.job_listing.specs.Listed.{countListed, placeOf, numberOf}
 use Rattle.job_listing.specs.declared.Listed.{Listed}
 use Rattle.card.specs.declared.CardBytes.{CardBytes}
-use Rattle.card.specs.Answers.{bytesOf, bytesFor}
+use Rattle.card.specs.Answers.{bytesFor}
 use borrow.Author.Needs.{needs}
 use Rattle.card.proofs.listed_numbers.Statement.{statement}
 use Rattle.card.proofs.listed_numbers.Tie as tie
 
 -- the answer where the listing's is known to be s
 made : {r s : Listed} {place number : ℕ} → r ≡ s → place ≡ placeOf r → number ≡ numberOf r
-    → _≡_ {A = CardBytes} (record { place = place; bytes = bytesOf s; number = number }) (bytesFor r)
-made e p n = λ i. record { place = p i; bytes = sym (ap bytesOf e) i; number = n i }
+    → _≡_ {A = CardBytes} (record { place = place; bytes = countListed s; number = number }) (bytesFor r)
+made e p n = λ i. record { place = p i; bytes = sym (ap countListed e) i; number = n i }
 
 place-requires : tie.Need-place-requires
 place-requires c κs = search needs

@@ -1,10 +1,10 @@
 -- `card::reading_numbers` meets its contract. Assumes nothing.
 use mathlib.Core.Path.{_≡_, sym, ap}
 use Prim.Native.Nat.{ℕ}
-use Rattle.reader.specs.Answers.{placeOf, numberOf}
+use Rattle.reader.specs.Answers.{bytesRead, pagesRead, lostRead, orphansRead, changedRead, placeOf, numberOf}
 use Rattle.reader.specs.declared.Reading.{Reading}
 use Rattle.card.specs.declared.CardReading.{CardReading}
-use Rattle.card.specs.Answers.{bytesRead, pagesRead, lostRead, orphansRead, changedRead, readingFor}
+use Rattle.card.specs.Answers.{readingFor}
 use borrow.Author.Needs.{needs}
 use Rattle.card.proofs.reading_numbers.Statement.{statement}
 use Rattle.card.proofs.reading_numbers.Tie as tie

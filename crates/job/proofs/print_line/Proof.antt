@@ -4,6 +4,7 @@ use mathlib.Core.List.{List, [], _∷_, _++_, append-assoc}
 use Prim.Native.Nat.{ℕ, _+_, _≤_, _<_}
 use native.Mathlib.Omega.{arith}
 use lib.ListN.{length, length-append}
+use lib.Seq.{take-all}
 use borrow.Author.Needs.{needs}
 use borrow.Author.Tests.{lt-ltb, le-ltb}
 use Rattle.base.specs.Lists.{over}
@@ -86,7 +87,8 @@ returns-2 c =
     let both : length (head ++ text) ≡ 8 + e .before .before .spaced-length .result = omega (arith, length-append head text) in
     let third = over-behind old (head ++ text) end (8 + e .before .before .spaced-length .result) second both
     (omega (arith, ap length second, over-length old (head ++ text) (omega arith))) (c .before .before .print-ending .ensures) in
-    (rw (fits, n) (ap Printed (omega arith)), third ∙ ap (over old) (whole (a .identity) (a .kind) (a .digits .now) (a .cut)))
+    let all = take-all (8 + e .before .before .spaced-length .result + e .before .ending-length .result) (printed (a .identity) (a .kind) (a .digits .now) (a .cut)) (omega arith) in
+    (rw (fits, n) (ap Printed (omega arith)), third ∙ ap (over old) (whole (a .identity) (a .kind) (a .digits .now) (a .cut) ∙ sym all))
 
 pub print-line-spec : {M : Type 1} → statement M
 print-line-spec =

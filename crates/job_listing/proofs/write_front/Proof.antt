@@ -5,9 +5,10 @@ use lib.ListN.{length, take}
 use lib.Seq.{length-take-le}
 use borrow.Author.Needs.{needs}
 use Rattle.base.specs.Lists.{over}
-use Rattle.listing.specs.Answers.{bytesWritten}
+use Rattle.listing.specs.Text.{textOf}
 use Rattle.listing.specs.declared.Writing.{Writing}
-use Rattle.job_listing.proofs.ListedLaws.{asListed, written-is}
+use Rattle.job_listing.specs.Listed.{bytesListed}
+use Rattle.job_listing.proofs.ListedLaws.{asListed, written-is, front-written}
 use Rattle.job_listing.proofs.write_front.Statement.{statement}
 use Rattle.job_listing.proofs.write_front.Tie as tie
 
@@ -33,7 +34,7 @@ returns c =
     let ws = take (a .n) (a .words .now) in
     let told = sym (c .before .answer .given .1) in (
       ap asListed (told ∙ w .ensures .0) ∙ written-is ws (length (a .out .now)),
-      w .ensures .1 ∙ ap (λ (x : Writing). over (a .out .now) (bytesWritten ws x)) (sym (told ∙ w .ensures .0)),
+      w .ensures .1 ∙ ap (over (a .out .now)) (front-written ws (length (a .out .now)) ∙ ap (λ (x : Writing). bytesListed (asListed x) (textOf ws)) (sym (told ∙ w .ensures .0))),
     )
 
 same-length-2 : tie.Need-same-length-2
@@ -46,7 +47,7 @@ returns-2 c =
     let ws = take (a .n) (a .words .now) in
     let told = sym (c .enum-told .given .1) in (
       ap asListed (told ∙ w .ensures .0) ∙ written-is ws (length (a .out .now)),
-      w .ensures .1 ∙ ap (λ (x : Writing). over (a .out .now) (bytesWritten ws x)) (sym (told ∙ w .ensures .0)),
+      w .ensures .1 ∙ ap (over (a .out .now)) (front-written ws (length (a .out .now)) ∙ ap (λ (x : Writing). bytesListed (asListed x) (textOf ws)) (sym (told ∙ w .ensures .0))),
     )
 
 pub write-front-spec : {M : Type 1} → statement M

@@ -92,8 +92,10 @@ returns-2 c =
     let l = c .before .loop in
     let a = c .before .before .before .before .before .args in
     let ws = now (a .words) in
-    let fits = le-ltb (length (now (a .out))) (9 * length ws) (l .inv .1) in
-    (rw fits, rw fits (l .inv .3 ∙ ap (λ t. over (now (a .out)) (textOf t)) (take-all (l .k) ws (omega arith))))
+    let fits = le-ltb (length (now (a .out))) (9 * length ws) (l .inv .1) in (
+      rw fits,
+      rw (fits, take-all (9 * length ws) (textOf ws) (omega (arith, text-length 0 ws))) (l .inv .3 ∙ ap (λ t. over (now (a .out)) (textOf t)) (take-all (l .k) ws (omega arith))),
+    )
 
 pub write-spec : {M : Type 1} → statement M
 write-spec =
