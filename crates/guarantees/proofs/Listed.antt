@@ -88,12 +88,13 @@ by-number (Written n) e = refl
 by-number (Declined why place) e = absurd (omega (arith, refused-number why .0))
 by-number NoRoom e = absurd (omega arith)
 
-by-card-list : (s old left : List ℕ) (r : CardBytes) → CardList s old r left → r .number ≡ 0 → ReadAfterListing s (r .bytes) left
-by-card-list s old left r call e =
+as-list-job : (s old left : List ℕ) (r : CardBytes) → CardList s old r left → r .number ≡ 0 → ListJob s old (Written (r .bytes)) left
+as-list-job s old left r call e =
     let a = listedOf s (length old) in
-    let is : a ≡ Written (r .bytes) = by-number a (sym (ap (λ (x : CardBytes). x .number) (call .answer)) ∙ e) ∙ ap (λ (x : CardBytes). Written (x .bytes)) (sym (call .answer)) in
-    by-list-job s old left (r .bytes)
-    (record { answer = sym is; bytes = call .bytes ∙ ap (λ (x : Listed). over old (bytesListed x (listingText s))) is })
+    let is : a ≡ Written (r .bytes) =
+    by-number a (ap (λ (x : CardBytes). x .number) (sym (call .answer)) ∙ e) ∙ ap (λ (x : CardBytes). Written (x .bytes)) (sym (call .answer)) in
+    record { answer = sym is; bytes = call .bytes ∙ ap (λ (x : Listed). over old (bytesListed x (listingText s))) is }
 
 pub listed-then-read : ListedThenRead
-listed-then-read = record { list-job = by-list-job; card-list = by-card-list }
+listed-then-read =
+    record { list-job = by-list-job; card-list = λ s old left r call e. by-list-job s old left (r .bytes) (as-list-job s old left r call e) }

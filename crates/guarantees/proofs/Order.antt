@@ -7,11 +7,10 @@ use native.Mathlib.Nat.{le-of-suc-le-suc, eq-or-lt-of-le, not-suc-le-zero}
 use native.Mathlib.Omega.{arith}
 use lib.ListN.{length, getD, length-append, List·getD-append}
 use lib.Seq.{getD-append-seam}
-use Rattle.placement.specs.Placement.{Job, Framed, State, Content, idle, address, message, stateAt, contentAt, batches, slotOf}
-use Rattle.placement.proofs.Turn.{Turn, runs, starts, rests, ready-true}
-use Rattle.placement.proofs.Bounds.{count, none-sent, all-sent, total-start, good}
-use Rattle.placement.proofs.Contents.{slot, began}
-use Rattle.placement.proofs.Placed.{placed, done, sent, once}
+use Rattle.placement.specs.Placement.{Job, Framed, Content, idle, address, message, stateAt, contentAt, batches, slotOf}
+use Rattle.placement.proofs.Bounds.{count, none-sent, all-sent}
+use Rattle.placement.proofs.Contents.{began}
+use Rattle.placement.proofs.Placed.{placed, done, sent, once, addresses, count-next}
 use Rattle.guarantees.specs.Order.{withAddress, orderTo, order, InOrder, Ordered}
 
 -- one entry more at the end
@@ -31,19 +30,15 @@ module _ (o : List ℕ) (p : ℕ) where
 module _ (job : Job) (framed : Framed job) where
   -- ---- as many entries as pages
 
-  -- a slot with an address sends one page more
-  counted : (s : ℕ) (st st′ : State) (c : Content) (o : List ℕ) → Turn job s st c st′ → length (st .sent) ≡ job .pages
-      → length o ≡ count job st → length (withAddress o c) ≡ count job st′
-  counted s st st′ c o (runs l z) m e = e
-  counted s st st′ c o (starts p z l may _) m e =
-      omega (arith, snoc-length o p, total-start job (λ _. 1) (st .sent) p l (ready-true job s st p may .0) s m)
-  counted s st st′ c o (rests z _) m e = e
+  counted : (o : List ℕ) (c : Content) → length (withAddress o c) ≡ length o + addresses c
+  counted o idle = omega arith
+  counted o (address p) = snoc-length o p
+  counted o (message p j) = omega arith
 
   order-count : (s : ℕ) → length (orderTo job s) ≡ count job (stateAt job s)
   unfolding orderTo stateAt
   order-count zero = sym (none-sent job)
-  order-count (suc s) =
-      counted s (stateAt job s) _ (contentAt job s) (orderTo job s) (slot job s) (good job framed s .marks) (order-count s)
+  order-count (suc s) = omega (arith, counted (orderTo job s) (contentAt job s), order-count s, count-next job framed s)
 
   -- ---- every page, by rising slots
 

@@ -1,7 +1,7 @@
 -- Demand 3 over the placement: `placed` proves the record `Placed` of specs/Promise.antt. Assumes nothing.
 use mathlib.Core.Path.{_≡_, refl, sym, ap, _∙_}
 use mathlib.Core.Bool.{true, false, not, cond}
-use mathlib.Core.Logic.{⊎-elim, _⊎_, inl, inr}
+use mathlib.Core.Logic.{⊎-elim}
 use mathlib.Core.List.{List, map, append-nil}
 use Prim.Native.Nat.{ℕ, zero, suc, pred, _+_, _*_, _-_, _/_, _≤_, _<_}
 use native.Mathlib.Nat.{le-of-suc-le-suc, eq-or-lt-of-le}
@@ -15,7 +15,7 @@ use Rattle.base.specs.Search.{least, sum}
 use Rattle.base.proofs.ListLaws.{tab-length, tab-at, tab-list}
 use Rattle.base.proofs.Bools.{true-false, and-true, and-both}
 use Rattle.base.proofs.SearchLaws.{Least, least-is, least-only, sum-cong, le-or-lt}
-use Rattle.placement.specs.Placement.{Job, jobOf, Framed, slotBound, State, Content, address, message, isMessage, stateAt, contentAt, allOut, endsWith, batches, slotOf, slots}
+use Rattle.placement.specs.Placement.{Job, jobOf, Framed, slotBound, State, Content, idle, address, message, isMessage, stateAt, contentAt, allOut, endsWith, batches, slotOf, slots}
 use Rattle.placement.specs.Promise.{earlier, Holds, nothing, itsAddress, itsMessage, Placed, Limits}
 use Rattle.placement.proofs.Sendable.{Sendable}
 use Rattle.placement.proofs.Turn.{Turn, runs, starts, rests, ready-true}
@@ -44,6 +44,12 @@ no-message-in : {job : Job} {s : ℕ} {st st′ : State} {c : Content} → st .l
 no-message-in e (runs l z) = absurd (omega arith)
 no-message-in e (starts k z b r _) = refl
 no-message-in e (rests z none) = refl
+
+-- how many addresses stand in a slot with these contents
+abbrev pub addresses : Content → ℕ
+addresses idle = 0
+addresses (address i) = 1
+addresses (message i j) = 0
 
 -- the reported slots: how many, and each
 pub slots-length : (job : Job) → length (slots job) ≡ job .pages
@@ -151,12 +157,15 @@ module _ (job : Job) (framed : Framed job) where
           let h : slotOf job j < s = omega arith in
           rw (lt-ltb (slotOf job j) s h)
 
-  -- a slot sends at most one page more
-  next-count : {s : ℕ} {st st′ : State} {c : Content} → length (st .sent) ≡ job .pages → Turn job s st c st′
-      → (count job st′ ≡ count job st) ⊎ ((i : ℕ) × (c ≡ address i) × (count job st′ ≡ count job st + 1))
-  next-count m (runs l z) = inl refl
-  next-count {s} {st} m (starts i z l r _) = inr (i, refl, total-start job (λ _. 1) (st .sent) i l (ready-true job s st i r .0) s m)
-  next-count m (rests z none) = inl refl
+  -- a slot with an address sends one page more
+  pub count-next : (s : ℕ) → count job (stateAt job (suc s)) ≡ count job (stateAt job s) + addresses (contentAt job s)
+  count-next s = go _ _ (slot job s)
+    where
+      go : (c : Content) (st′ : State) → Turn job s (stateAt job s) c st′ → count job st′ ≡ count job (stateAt job s) + addresses c
+      go c st′ (runs l z) = omega arith
+      go c st′ (starts i z l r _) =
+          total-start job (λ _. 1) (stateAt job s .sent) i l (ready-true job s (stateAt job s) i r .0) s (good job framed s .marks)
+      go c st′ (rests z none) = omega arith
 
   -- how many pages go out before page i
   abbrev rankOf : ℕ → ℕ
@@ -171,25 +180,21 @@ module _ (job : Job) (framed : Framed job) where
   ranked : (s k : ℕ) → k < count job (stateAt job s) → (i : ℕ) × (i < job .pages) × (rankOf i ≡ k)
   unfolding stateAt
   ranked zero k h = absurd (omega (arith, none-sent job))
-  ranked (suc s) k h =
-      ⊎-elim
-      (λ e. ranked s k (omega arith))
-      (λ x. ⊎-elim
-      (λ e. (x .0, began job s (x .0) (x .1) .page, rank s (x .0) (x .1) ∙ sym e))
-      (λ l. ranked s k l)
-      (eq-or-lt-of-le (le-of-suc-le-suc (rw (x .2, add-one) at h))))
-      (next-count (good job framed s .marks) (slot job s))
+  ranked (suc s) k h = go (contentAt job s) refl (count-next s) (ranked s k)
+    where
+      go : (c : Content) → contentAt job s ≡ c → count job (stateAt job (suc s)) ≡ count job (stateAt job s) + addresses c
+          → (k < count job (stateAt job s) → (i : ℕ) × (i < job .pages) × (rankOf i ≡ k)) → (i : ℕ) × (i < job .pages) × (rankOf i ≡ k)
+      go idle e n ih = ih (omega arith)
+      go (message i j) e n ih = ih (omega arith)
+      go (address i) e n ih =
+          ⊎-elim ih (λ l. (i, began job s i e .page, omega (arith, rank s i e))) (le-or-lt (suc k) (count job (stateAt job s)))
 
   rises : (s u : ℕ) → s ≤ u → count job (stateAt job s) ≤ count job (stateAt job u)
   rises s u h =
-      le-ind {n = s} (λ (v : ℕ). count job (stateAt job s) ≤ count job (stateAt job v)) (omega arith)
-      (λ v _ q. ⊎-elim (λ e. omega arith) (λ x. omega arith) (next-count (good job framed v .marks) (slot job v)))
-      u h
+      le-ind {n = s} (λ (v : ℕ). count job (stateAt job s) ≤ count job (stateAt job v)) (omega arith) (λ v _ q. omega (arith, count-next v)) u h
 
   counts : (s i : ℕ) → contentAt job s ≡ address i → count job (stateAt job (suc s)) ≡ count job (stateAt job s) + 1
-  counts s i e =
-      let b = began job s i e in
-      rw (b .next) (total-start job (λ _. 1) (stateAt job s .sent) i (b .page) (b .fresh) s (good job framed s .marks))
+  counts s i e = count-next s ∙ ap (λ (c : Content). count job (stateAt job s) + addresses c) e
 
   -- a page that goes out later has a higher rank
   later : (i j : ℕ) → i < job .pages → j < job .pages → slotOf job i < slotOf job j → rankOf i < rankOf j

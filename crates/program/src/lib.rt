@@ -3,12 +3,66 @@
 ghost use mathlib.Core.Path.{_≡_};
 ghost use mathlib.Core.List.{_++_};
 ghost use Prim.Native.Nat.{_+_, _≤_};
-ghost use lib.ListN.{length, take, drop};
+ghost use lib.ListN.{length, take, drop, replicate};
+ghost use Rattle.io.specs.Counts.{Counts};
 ghost use Rattle.base.specs.Lists.{over};
 ghost use Rattle.program.specs.Prints.{decimal, refusalLine, sendPrints, readPrints};
 use codeword::Engine;
 use job_listing::Listed;
+use libc::STDIN_FILENO;
 use reader::Reading;
+
+// What was read of standard input: how many bytes, and whether a read failed.
+pub struct Input {
+    pub bytes: usize,
+    pub failed: bool,
+}
+
+// Room for standard input, and one byte more: number 24 is for an input of over 65,536 bytes.
+pub fn input_buffer() -> [u8; 65537]
+    ensures { λ r. ⌜ r ≡ replicate 65537 0 ⌝ }
+{
+    [0; 65537]
+}
+
+// Room for the listing of every job: nine bytes for each of 5,118 words.
+pub fn listing_buffer() -> [u8; 46062]
+    ensures { λ r. ⌜ r ≡ replicate 46062 0 ⌝ }
+{
+    [0; 46062]
+}
+
+// Room for the lines of every listing: ten bytes for each of 4,800 slots.
+pub fn lines_buffer() -> [u8; 48000]
+    ensures { λ r. ⌜ r ≡ replicate 48000 0 ⌝ }
+{
+    [0; 48000]
+}
+
+// Reads standard input up to its end, or until the slice is full or a read fails. Of the bytes no contract can speak.
+pub fn read_input(input: &mut [u8]) -> Input
+    ensures { λ r. ⌜ Counts (r .bytes) (now (input .exit)) ⌝ }
+{
+    let mut n = 0;
+    while n < input.len() {
+        let got = libc::read(STDIN_FILENO, &mut input[n..]);
+        if got < 0 {
+            return Input {
+                bytes: n,
+                failed: true,
+            };
+        }
+        let more = io::count(got, &input[n..]);
+        if more == 0 {
+            break;
+        }
+        n += more;
+    }
+    Input {
+        bytes: n,
+        failed: false,
+    }
+}
 
 // Writes bytes behind those that stand at the front of a slice, and answers where they end.
 fn append(out: &mut [u8], at: usize, part: &[u8]) -> usize

@@ -5,7 +5,6 @@ use mathlib.Core.List.{List}
 use Prim.Native.Nat.{ℕ, zero, suc, _+_, _*_, _/_, _^_, _≤_, _<_}
 use native.Mathlib.Nat.{add-zero, add-suc}
 use native.Mathlib.Omega.{arith}
-use lib.ListN.{length}
 use lib.Dec.{eqb, ltb}
 use borrow.Author.Tests.{ltb-true, lt-ltb, le-ltb, eq-eqb, ne-eqb}
 use Rattle.base.specs.Search.{sum}
@@ -17,12 +16,10 @@ use Rattle.codeword.proofs.CodeLaws.{codeword-front}
 use Rattle.job.specs.Line.{isReserved}
 use Rattle.job.specs.Job.{jobOf}
 use Rattle.job.specs.declared.JobAnswer.the-variants.{Accepted}
-use Rattle.placement.specs.Placement.{Job, Framed, State, Content, idle, address, message, stateAt, contentAt, batches, slotOf}
+use Rattle.placement.specs.Placement.{Job, Framed, Content, stateAt, contentAt, batches, slotOf}
 use Rattle.placement.specs.Promise.{Holds, nothing, itsAddress, itsMessage}
-use Rattle.placement.proofs.Turn.{Turn, runs, starts, rests, ready-true}
-use Rattle.placement.proofs.Bounds.{count, none-sent, total-start, good}
-use Rattle.placement.proofs.Contents.{slot}
-use Rattle.placement.proofs.Placed.{placed, rank}
+use Rattle.placement.proofs.Bounds.{count, none-sent}
+use Rattle.placement.proofs.Placed.{placed, addresses, count-next, rank}
 use Rattle.transmission.specs.Sending.{Sending, sendingsOf, sendingAt, placementOf, Allowed, AllAllowed}
 use Rattle.transmission.specs.Transmission.{Codewords, addressOf, codewordsOf, codewordIn, batchWord, wordAt}
 use Rattle.transmission.specs.Transmitted.{slotWord, isAddress, addressesTo, Coded, Transmitted}
@@ -106,33 +103,20 @@ module _ (job : Job) (framed : Framed job) (c : Codewords) (coded : Coded job c)
 
   -- ---- the addresses in slot order
 
-  ones : Content → ℕ
-  ones idle = 0
-  ones (address i) = 1
-  ones (message i j) = 0
-
   -- an address word is the word of an address
-  address-one : (s : ℕ) (x : Content) → Holds job s x → cond (isAddress (codewordIn c x)) 1 0 ≡ ones x
-  unfolding codewordIn ones
+  address-one : (s : ℕ) (x : Content) → Holds job s x → cond (isAddress (codewordIn c x)) 1 0 ≡ addresses x
+  unfolding codewordIn
   address-one s x nothing = refl
   address-one s x (itsAddress i l q) = rw (lt-ltb _ _ (coded .clear i l), ne-eqb _ _ (coded .notIdle i l))
   address-one s x (itsMessage i j l m q) = rw (le-ltb _ _ (coded .set i j l m))
-
-  -- a slot with an address sends one page more
-  sends-one : (s : ℕ) (st st′ : State) (x : Content) → Turn job s st x st′ → length (st .sent) ≡ job .pages → count job st + ones x ≡ count job st′
-  unfolding ones
-  sends-one s st st′ x (runs l z) m = omega arith
-  sends-one s st st′ x (starts i z l r _) m = sym (total-start job (λ _. 1) (st .sent) i l (ready-true job s st i r .0) s m)
-  sends-one s st st′ x (rests z _) m = omega arith
 
   -- the addresses before slot s are those of the pages sent before it
   addresses-are : (s : ℕ) → addressesTo (slotWord c job) s ≡ count job (stateAt job s)
   unfolding sum stateAt
   addresses-are zero = sym (none-sent job)
   addresses-are (suc s) =
-      let x = contentAt job s in
-      let here : cond (isAddress (slotWord c job s)) 1 0 ≡ ones x = rw slot-word (address-one s x (placed job framed .only s)) in
-      omega (arith, addresses-are s, here, sends-one s (stateAt job s) _ x (slot job s) (good job framed s .marks))
+      let here : cond (isAddress (slotWord c job s)) 1 0 ≡ addresses (contentAt job s) = rw slot-word (address-one s _ (placed job framed .only s)) in
+      omega (arith, addresses-are s, here, count-next job framed s)
 
   -- ---- sync
 
