@@ -1,25 +1,40 @@
-/* Spuggenor: the library of a paging terminal's card, as C sees it (x86-64 Linux). Link target/staticlib/libcard.a, made by
- * `rt staticlib card`.
+/* Spuggenor: the library of a paging terminal's card, as C and C++ see it (x86-64 Linux; C99 or newer, C++98 or newer).
  *
- * What the caller must keep: a pointer that comes with a length points at that many elements, aligned for them, and is not null even
- * where the length is 0; a buffer or state that a call may write (a pointer without const) overlaps nothing else that the call is
- * given. Nothing else: every value of every argument and every byte of a state gets an answer. The library allocates nothing and keeps
- * nothing between calls, so calls on different memory may run at once.
+ * One library, three names: it is called Spuggenor; its functions begin with card_, since they are what the card calls; and they come
+ * from the crate `card`, so that `rt staticlib card` writes them to target/staticlib/libcard.a. Link that file and nothing else: of
+ * the C library it needs only memcpy and memset.
+ *
+ * What the caller must keep: a pointer that comes with a length points at that many elements, aligned for them, or is null where the
+ * length is 0; a state is never null; a buffer or state that a call may write (a pointer without const) overlaps nothing else that the
+ * call is given. Nothing else: every value of every argument and every byte of a state gets an answer. The library allocates nothing
+ * and keeps nothing between calls, so calls on different memory may run at once.
  * Measured, reading takes some 140 KB of stack, card_list 30 KB, every other call 10 KB or less.
  *
- * number and place are those of document 01's table. A number of 0 says that nothing is declined. A declined call leaves every lent
- * buffer and state as it was, and its counts are zero. In a lent buffer what stands behind the last element written keeps its value. */
+ * A number of 0 says that nothing is declined; the others are the CARD_REFUSED_ below. A declined call leaves every lent buffer and
+ * state as it was, and its counts are zero. In a lent buffer what stands behind the last element written keeps its value.
+ *
+ * docs/PROGRAMS.md has the forms of a page line and of a listing. */
 #ifndef SPUGGENOR_H
 #define SPUGGENOR_H
 
 #include <stddef.h>
 #include <stdint.h>
 
+/* 1.0.0, as 10000 * first + 100 * second + third. The first goes up where a caller has to change or only to be compiled again, as when
+ * a struct grows; the second where something is added. The archive and the header of one commit belong together. */
+#define SPUGGENOR_VERSION 10000
+
 #ifdef __cplusplus
 extern "C" {
+#endif
+
+/* What the compiler is to check; before C11 and C++11 by the length of an array that is declared and never made. */
+#if defined(__cplusplus) && __cplusplus >= 201103L
 #define CARD_ASSERT(fact) static_assert(fact, #fact)
-#else
+#elif !defined(__cplusplus) && defined(__STDC_VERSION__) && __STDC_VERSION__ >= 201112L
 #define CARD_ASSERT(fact) _Static_assert(fact, #fact)
+#else
+#define CARD_ASSERT(fact) extern char card_assert[(fact) ? 1 : -1]
 #endif
 
 /* Sizes that suffice for every job and every listing. */
@@ -30,11 +45,31 @@ extern "C" {
 #define CARD_LINES_BYTES 48000      /* bytes of the page lines of 300 batches */
 #define CARD_MESSAGE_WORDS 4032     /* message codewords of a job */
 
+/* Why work is declined, and the place that comes with the number. Of a job the first faulty line decides, and in it the lowest of 1 to
+ * 7, but a 49th line is 8 whatever it holds; then 9, then 10. Of a listing the first line that gives 21 or 23, then the first 22, then
+ * 10; of words 21, 23, 22, 10. (The programs have one number more, 24.) */
+#define CARD_REFUSED_LINE_FORM 1            /* line: it is not written as a page line */
+#define CARD_REFUSED_IDENTITY_TOO_LARGE 2   /* line: over 1FFFFF */
+#define CARD_REFUSED_IDENTITY_RESERVED 3    /* line: 1EA270 to 1EA277 or 1F3480 to 1F3487 */
+#define CARD_REFUSED_KIND 4                 /* line: none of 0 to 5 */
+#define CARD_REFUSED_TEXT_LENGTH 5          /* line: wrong for the kind */
+#define CARD_REFUSED_CHARACTER 6            /* line: one that the kind does not have */
+#define CARD_REFUSED_SPACE_AT_END 7         /* line: a numeric text ends in a space */
+#define CARD_REFUSED_TOO_MANY_PAGES 8       /* 49: a 49th line */
+#define CARD_REFUSED_EMPTY_JOB 9            /* 0: no bytes */
+#define CARD_REFUSED_BUFFER_TOO_SHORT 10    /* 0: a lent buffer is shorter than the answer */
+#define CARD_REFUSED_STATE 11               /* 0: a sender's state as is said there; card_step alone */
+#define CARD_REFUSED_WORD 20                /* 0: no codeword is within two bits; card_correct and card_correct_slowly alone */
+#define CARD_REFUSED_BATCHES_FORM 21        /* line: a listing is not written as one, or ends early (the line after the last);
+                                             * 0: words that are none, or no multiple of 17 */
+#define CARD_REFUSED_NO_SYNC 22             /* batch, from 1: its first word is not within two bits of sync */
+#define CARD_REFUSED_TOO_MANY_BATCHES 23    /* line of the 301st sync; 0 for words */
+
 /* ---- a received word */
 
 struct card_word {
     uint32_t word;      /* the codeword at most two bits away, or the word itself where there is none */
-    uint32_t number;    /* 0, or 20 */
+    uint32_t number;    /* 0, or 20, whose place is 0 */
     uint32_t changed;   /* bits changed: 0, 1 or 2; 0 with number 20 */
 };
 
@@ -102,8 +137,9 @@ struct card_reading card_read_words_slowly(const uint32_t *words, size_t words_l
 struct card_reading card_read_listing_slowly(const uint8_t *listing, size_t listing_length, uint8_t *out, size_t out_length);
 
 /* ---- a job word by word. The caller keeps the state, and nothing but card_step writes it until the transmission is over. It holds no
- * pointer, so it may be copied or moved as memory. A state in which another byte was written gets an answer too; that answer is
- * number 11 exactly where the table says so. */
+ * pointer, so it may be copied or moved as memory. A state in which another byte was written gets an answer too. It is number 11
+ * exactly where the state has over 48 pages; or, in a page that it counts, a frame over 7 or message words that end beyond
+ * CARD_MESSAGE_WORDS; or runs a page that it does not count, or a word that this page does not have; or has a slot over 4,800. */
 
 struct card_sender {
     struct {
@@ -146,7 +182,7 @@ struct card_refusal card_start(const uint8_t *job, size_t job_length, struct car
 struct card_step_answer {
     uint32_t word;      /* the next word; 0 where there is none */
     uint32_t done;      /* 1 where all words are out, again and again; the state then stays as it was */
-    uint32_t number;    /* 0, or 11 */
+    uint32_t number;    /* 0, or 11, whose place is 0 */
 };
 
 /* The next word of the transmission that card_send writes, preamble first. From card_start on no step is declined. */

@@ -54,8 +54,8 @@ const _: () = {
 impl Sender {
     /// A state of zeros.
     pub fn boxed() -> Box<Sender> {
-        // SAFETY: a box of zeros from the allocator, for a struct of plain numbers; every byte pattern is one.
-        unsafe { Box::<Sender>::new_zeroed().assume_init() }
+        // SAFETY: a struct of plain numbers, of which every byte pattern is one.
+        Box::new(unsafe { std::mem::zeroed() })
     }
 
     pub fn bytes(&self) -> &[u8; BYTES] {

@@ -22,10 +22,10 @@ pub fn listing(preamble_lines: usize, preamble: u32, batches: &[u32]) -> Vec<u8>
 pub fn of_words(preamble: &[u32], batches: &[u32]) -> Vec<u8> {
     let mut out = Vec::with_capacity(9 * (preamble.len() + batches.len()));
     for (i, &word) in preamble.iter().enumerate() {
-        put(word, if i.is_multiple_of(2) { b' ' } else { b'\n' }, &mut out);
+        put(word, if i % 2 == 0 { b' ' } else { b'\n' }, &mut out);
     }
     for (i, &word) in batches.iter().enumerate() {
-        put(word, if (i % BATCH).is_multiple_of(2) { b'\n' } else { b' ' }, &mut out);
+        put(word, if i % BATCH % 2 == 0 { b'\n' } else { b' ' }, &mut out);
     }
     out
 }

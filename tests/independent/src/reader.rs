@@ -133,7 +133,7 @@ fn read(words: &[u32]) -> Result<Log, Refusal> {
 
 /// The page lines of a slice of words: batches only.
 pub fn log_of_words(words: &[u32]) -> Result<Log, Refusal> {
-    if words.is_empty() || !words.len().is_multiple_of(BATCH_WORDS) {
+    if words.is_empty() || words.len() % BATCH_WORDS != 0 {
         return Err(Refusal::new(21, 0));
     }
     if words.len() / BATCH_WORDS > MOST_BATCHES {

@@ -1,0 +1,210 @@
+/* The header's sizes and numbers against the archive: the largest jobs and listings in buffers that just suffice and in buffers that
+ * are one too short, work that is declined by each number, and null with length 0.
+ *
+ *     gcc -Wall -Wextra tests/c/limits.c -Iinclude target/staticlib/libcard.a -o target/limits && target/limits
+ * It prints each difference, and ends with status 0 where there is none.
+ *
+ * Jobs reach CARD_PAGES and CARD_MESSAGE_WORDS, listings reach CARD_LISTING_BYTES and CARD_LINES_BYTES. No job that we know reaches
+ * CARD_WORDS, and so CARD_LISTING_BYTES on sending: they are for 300 batches, and the longest transmission here has 289. */
+#include "spuggenor.h"
+#include <stdio.h>
+#include <string.h>
+
+static int wrong;
+#define EXPECT(fact) do { if (!(fact)) { printf("line %d: %s\n", __LINE__, #fact); wrong = 1; } } while (0)
+
+/* every buffer has one element more than the header says, which nothing may write */
+#define UNTOUCHED 0x5A
+static uint8_t job[(CARD_PAGES + 1) * 490], listing[CARD_LISTING_BYTES + 1], lines[CARD_LINES_BYTES + 1];
+static uint32_t words[CARD_WORDS + 1], again[CARD_WORDS + 1], slots[CARD_PAGES + 1];
+static struct card_sender state, kept;
+
+struct engine {
+    struct card_word (*correct)(uint32_t);
+    struct card_reading (*read_words)(const uint32_t *, size_t, uint8_t *, size_t);
+    struct card_reading (*read_listing)(const uint8_t *, size_t, uint8_t *, size_t);
+};
+static const struct engine engines[] = {
+    {card_correct, card_read_words, card_read_listing},
+    {card_correct_slowly, card_read_words_slowly, card_read_listing_slowly},
+};
+
+static size_t put(uint8_t *to, size_t at, const char *text) {
+    size_t length = strlen(text);
+    memcpy(to + at, text, length);
+    return at + length;
+}
+
+/* so many alphanumeric pages to 000007, the last one of 240 characters, those before it of so many: the job's bytes */
+static size_t pages(int count, int characters) {
+    size_t at = 0;
+    for (int page = 1; page <= count; page++) {
+        at = put(job, at, "000007 5 ");
+        for (int i = 0; i < (page == count ? 240 : characters); i++)
+            at = put(job, at, "7A");
+        at = put(job, at, "\n");
+    }
+    return at;
+}
+
+/* 300 batches of one numeric page, whose 4,799 message words are five zeros each, behind a preamble */
+static void one_long_page(void) {
+    for (int i = 0; i < CARD_WORDS; i++) {
+        int in_batch = (i - CARD_PREAMBLE_WORDS) % 17;
+        words[i] = i < CARD_PREAMBLE_WORDS ? 0xAAAAAAAA : in_batch == 0 ? 0x7CD215D8 : 0x80000769;
+    }
+    words[CARD_PREAMBLE_WORDS + 1] = 0x00000000;
+}
+
+/* the listing of CARD_WORDS words: its bytes */
+static size_t list_words(void) {
+    size_t at = 0;
+    for (int i = 0; i < CARD_WORDS; i++) {
+        int in_batch = (i - CARD_PREAMBLE_WORDS) % 17;
+        int ends = i < CARD_PREAMBLE_WORDS ? i % 2 == 1 : in_batch % 2 == 0;
+        char text[16];
+        sprintf(text, "%08X%c", (unsigned)words[i], ends ? '\n' : ' ');
+        at = put(listing, at, text);
+    }
+    return at;
+}
+
+/* the transmission that is as long as we know one: each message but the last has 80 codewords and ends just before frame 7, where the
+ * next page has to pause for a slot and so loses the frame */
+static void longest_transmission(void) {
+    size_t length = pages(CARD_PAGES, 228);
+    memset(slots, UNTOUCHED, sizeof slots);
+    struct card_report s = card_send(job, length, words, CARD_WORDS, slots, CARD_PAGES);
+    EXPECT(s.number == 0 && s.batches == 289 && s.words == 18 + 17 * 289 && slots[CARD_PAGES - 1] == 14 + 96 * 47);
+    EXPECT(slots[CARD_PAGES] == 0x5A5A5A5A && words[CARD_WORDS] == 0);
+    EXPECT(card_send(job, length, words, s.words, slots, CARD_PAGES).words == s.words);
+    EXPECT(card_send(job, length, words, s.words - 1, slots, CARD_PAGES).number == CARD_REFUSED_BUFFER_TOO_SHORT);
+    EXPECT(card_send(job, length, words, CARD_WORDS, slots, CARD_PAGES - 1).number == CARD_REFUSED_BUFFER_TOO_SHORT);
+    struct card_bytes l = card_list(job, length, listing, CARD_LISTING_BYTES);
+    EXPECT(l.number == 0 && l.bytes == 9 * (size_t)s.words && listing[CARD_LISTING_BYTES] == 0);
+    EXPECT(card_list(job, length, listing, l.bytes).bytes == l.bytes);
+    EXPECT(card_list(job, length, listing, l.bytes - 1).number == CARD_REFUSED_BUFFER_TOO_SHORT);
+}
+
+/* the job with the most message codewords: a state is full to its last word, and the steps give what is sent; a page more is too many */
+static void most_message_words(void) {
+    size_t length = pages(CARD_PAGES, 240);
+    struct card_report s = card_send(job, length, words, CARD_WORDS, slots, CARD_PAGES);
+    EXPECT(s.number == 0 && card_start(job, length, &state).number == 0);
+    EXPECT(state.pages.count == CARD_PAGES && state.pages.starts[CARD_PAGES - 1] + state.pages.lengths[CARD_PAGES - 1] == CARD_MESSAGE_WORDS);
+    EXPECT(state.words[CARD_MESSAGE_WORDS - 1] >> 31 == 1);
+    for (uint32_t i = 0; i < s.words; i++)
+        again[i] = card_step(&state).word;
+    EXPECT(memcmp(again, words, sizeof *words * s.words) == 0 && card_step(&state).done == 1);
+    length = pages(CARD_PAGES + 1, 240);
+    struct card_refusal r = card_start(job, length, &state);
+    EXPECT(r.number == CARD_REFUSED_TOO_MANY_PAGES && r.place == 49);
+}
+
+/* the most that can be read, and the most that it prints */
+static void longest_reading(const struct engine *by) {
+    const uint32_t *batches = words + CARD_PREAMBLE_WORDS;
+    size_t count = CARD_WORDS - CARD_PREAMBLE_WORDS;
+    one_long_page();
+    struct card_reading d = by->read_words(batches, count, lines, CARD_LINES_BYTES);
+    EXPECT(d.number == 0 && d.pages == 1 && d.bytes == CARD_LINES_BYTES && lines[CARD_LINES_BYTES - 1] == '\n' && lines[CARD_LINES_BYTES] == 0);
+    EXPECT(by->read_words(batches, count, lines, CARD_LINES_BYTES - 1).number == CARD_REFUSED_BUFFER_TOO_SHORT);
+    EXPECT(list_words() == CARD_LISTING_BYTES);
+    d = by->read_listing(listing, CARD_LISTING_BYTES, lines, CARD_LINES_BYTES);
+    EXPECT(d.number == 0 && d.pages == 1 && d.bytes == CARD_LINES_BYTES && lines[CARD_LINES_BYTES] == 0);
+    EXPECT(by->read_listing(listing, CARD_LISTING_BYTES, lines, CARD_LINES_BYTES - 1).number == CARD_REFUSED_BUFFER_TOO_SHORT);
+    d = by->read_listing(listing, CARD_LISTING_BYTES - 1, lines, CARD_LINES_BYTES);
+    EXPECT(d.number == CARD_REFUSED_BATCHES_FORM && d.place == 9 + 9 * 300);
+}
+
+struct declined {
+    const char *job;
+    uint32_t number;
+    size_t place;
+};
+static const struct declined jobs[] = {
+    {"000009 0\n000009 4 313\n", CARD_REFUSED_LINE_FORM, 2},
+    {"000009 0\n200000 0\n", CARD_REFUSED_IDENTITY_TOO_LARGE, 2},
+    {"1EA270 0\n", CARD_REFUSED_IDENTITY_RESERVED, 1},
+    {"000009 6\n", CARD_REFUSED_KIND, 1},
+    {"000009 0 31\n", CARD_REFUSED_TEXT_LENGTH, 1},
+    {"000009 4 41\n", CARD_REFUSED_CHARACTER, 1},
+    {"000009 4 3120\n", CARD_REFUSED_SPACE_AT_END, 1},
+    {"", CARD_REFUSED_EMPTY_JOB, 0},
+};
+
+/* each number that a job can be declined by, from each call that takes one */
+static void declined_jobs(void) {
+    for (size_t i = 0; i < sizeof jobs / sizeof *jobs; i++) {
+        const uint8_t *text = (const uint8_t *)jobs[i].job;
+        size_t length = strlen(jobs[i].job);
+        struct card_report s = card_send(text, length, words, CARD_WORDS, slots, CARD_PAGES);
+        struct card_bytes l = card_list(text, length, listing, CARD_LISTING_BYTES);
+        struct card_refusal r = card_start(text, length, &state);
+        EXPECT(s.number == jobs[i].number && s.place == jobs[i].place);
+        EXPECT(l.number == jobs[i].number && l.place == jobs[i].place);
+        EXPECT(r.number == jobs[i].number && r.place == jobs[i].place);
+    }
+}
+
+/* the other numbers */
+static void declined_words(const struct engine *by) {
+    one_long_page();
+    EXPECT(by->correct(7).number == CARD_REFUSED_WORD);
+    EXPECT(by->read_words(words, 18, lines, CARD_LINES_BYTES).number == CARD_REFUSED_BATCHES_FORM);
+    struct card_reading d = by->read_words(words + CARD_PREAMBLE_WORDS + 1, 17, lines, CARD_LINES_BYTES);
+    EXPECT(d.number == CARD_REFUSED_NO_SYNC && d.place == 1);
+    EXPECT(by->read_words(words, 17 * 301, lines, CARD_LINES_BYTES).number == CARD_REFUSED_TOO_MANY_BATCHES);
+    EXPECT(card_start((const uint8_t *)"000009 0\n", 9, &state).number == 0);
+    state.pages.count = CARD_PAGES + 1;
+    EXPECT(card_step(&state).number == CARD_REFUSED_STATE);
+}
+
+/* null with length 0 in each place: the same answers as a pointer to no elements gets */
+static void null_jobs(void) {
+    const uint8_t *text = (const uint8_t *)"000009 4 3132\n";
+    EXPECT(card_send(NULL, 0, words, CARD_WORDS, slots, CARD_PAGES).number == CARD_REFUSED_EMPTY_JOB);
+    EXPECT(card_send(NULL, 0, NULL, 0, NULL, 0).number == CARD_REFUSED_EMPTY_JOB);
+    EXPECT(card_send(text, 14, NULL, 0, slots, CARD_PAGES).number == CARD_REFUSED_BUFFER_TOO_SHORT);
+    EXPECT(card_send(text, 14, words, CARD_WORDS, NULL, 0).number == CARD_REFUSED_BUFFER_TOO_SHORT);
+    EXPECT(card_send(text, 14, NULL, 0, NULL, 0).number == CARD_REFUSED_BUFFER_TOO_SHORT);
+    EXPECT(card_send(text, 13, NULL, 0, NULL, 0).number == CARD_REFUSED_LINE_FORM);
+    EXPECT(card_list(NULL, 0, listing, CARD_LISTING_BYTES).number == CARD_REFUSED_EMPTY_JOB);
+    EXPECT(card_list(NULL, 0, NULL, 0).number == CARD_REFUSED_EMPTY_JOB);
+    EXPECT(card_list(text, 14, NULL, 0).number == CARD_REFUSED_BUFFER_TOO_SHORT);
+    memset(&state, UNTOUCHED, sizeof state);
+    memcpy(&kept, &state, sizeof state);
+    EXPECT(card_start(NULL, 0, &state).number == CARD_REFUSED_EMPTY_JOB && memcmp(&state, &kept, sizeof state) == 0);
+}
+
+static void null_readings(const struct engine *by) {
+    const uint32_t *batches = words + CARD_PREAMBLE_WORDS;
+    one_long_page();
+    list_words();
+    EXPECT(by->read_words(NULL, 0, lines, CARD_LINES_BYTES).number == CARD_REFUSED_BATCHES_FORM);
+    EXPECT(by->read_words(NULL, 0, NULL, 0).number == CARD_REFUSED_BATCHES_FORM);
+    EXPECT(by->read_words(batches, 17 * 300, NULL, 0).number == CARD_REFUSED_BUFFER_TOO_SHORT);
+    EXPECT(by->read_listing(NULL, 0, lines, CARD_LINES_BYTES).number == CARD_REFUSED_BATCHES_FORM);
+    EXPECT(by->read_listing(NULL, 0, NULL, 0).number == CARD_REFUSED_BATCHES_FORM);
+    EXPECT(by->read_listing(listing, CARD_LISTING_BYTES, NULL, 0).number == CARD_REFUSED_BUFFER_TOO_SHORT);
+    /* nothing but orphans: no line, so that no buffer is too short */
+    words[CARD_PREAMBLE_WORDS + 1] = 0x80000769;
+    list_words();
+    struct card_reading d = by->read_words(batches, 17 * 300, NULL, 0);
+    EXPECT(d.number == 0 && d.bytes == 0 && d.pages == 0 && d.orphans == 16 * 300);
+    d = by->read_listing(listing, CARD_LISTING_BYTES, NULL, 0);
+    EXPECT(d.number == 0 && d.bytes == 0 && d.pages == 0 && d.orphans == 16 * 300);
+}
+
+int main(void) {
+    longest_transmission();
+    most_message_words();
+    declined_jobs();
+    null_jobs();
+    for (int i = 0; i < 2; i++) {
+        longest_reading(&engines[i]);
+        declined_words(&engines[i]);
+        null_readings(&engines[i]);
+    }
+    return wrong;
+}
