@@ -1,28 +1,20 @@
-// The sending program: reads a job on standard input and prints its listing, or one line `refused N place P`.
-use job_listing::Listed;
-use libc::STDIN_FILENO;
-
-// Room for the listing of every job: nine bytes for each of 5,118 words.
-fn output_buffer() -> [u8; 46062] {
-    [0; 46062]
-}
-
-fn send(job: &[u8]) {
-    let mut out = output_buffer();
-    let answer = job_listing::list_job(job, &mut out);
-    if let Listed::Written(n) = answer {
-        program::print_front(&out, n);
-        return;
-    }
-    program::print_refusal(job_listing::number(answer), job_listing::place(answer));
-}
+// The sending program: a job on standard input, its listing or one line `refused N place P` on standard output. `program::send` says which.
+use libc::STDERR_FILENO;
+use libc::STDOUT_FILENO;
 
 fn main() {
     let mut input = program::input_buffer();
-    let n = io::read_full(STDIN_FILENO, &mut input);
-    if 65536 < n {
-        program::print_refusal(24, 0);
+    let read = program::read_input(&mut input);
+    if read.failed {
+        io::write_all(STDERR_FILENO, b"page_send: standard input can't be read\n");
         return;
     }
-    send(&input[..n]);
+    let mut out = program::listing_buffer();
+    let n = program::send(&input[..read.bytes], &mut out);
+    if !io::write_all(STDOUT_FILENO, &out[..n]) {
+        io::write_all(
+            STDERR_FILENO,
+            b"page_send: standard output can't be written\n",
+        );
+    }
 }

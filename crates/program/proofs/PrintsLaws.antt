@@ -4,9 +4,11 @@ use mathlib.Core.Bool.{Bool, true, false, cond}
 use mathlib.Core.List.{List}
 use Prim.Native.Nat.{ℕ, _+_, _/_, _≤_, _<_}
 use native.Mathlib.Omega.{arith}
-use lib.ListN.{length}
+use lib.ListN.{length, drop, length-append}
+use lib.Seq.{length-take-le}
 use lib.Dec.{ltb}
 use borrow.Author.Tests.{lt-ltb, le-ltb, ne-eqb}
+use Rattle.io.specs.Counts.{Counts}
 use Rattle.base.specs.Lists.{over}
 use Rattle.job.specs.Job.{jobOf}
 use Rattle.job.specs.Refusal as refusal
@@ -40,6 +42,12 @@ Printed old text n out = (n ≡ length text) × (out ≡ over old text)
 
 same : (old a b out : List ℕ) (n : ℕ) → a ≡ b → Printed old a n out → Printed old b n out
 same old a b out n e p = (p .0 ∙ ap length e, p .1 ∙ ap (over old) e)
+
+-- they stand there
+pub counted : (old text : List ℕ) {n : ℕ} {out : List ℕ} → Printed old text n out → (n ≡ length text) × ((out ≡ over old text) × Counts n out)
+counted old text {n} {out} p =
+    let inside : n ≤ length out = omega (arith, p .0, ap length (p .1), length-append text (drop (length text) old)) in
+    (p .0, (p .1, (inside, sym (length-take-le n out inside))))
 
 -- the line of a refusal, by the number and place that were asked for, over what a declined call left as it was
 pub line-as : (old : List ℕ) (number place : ℕ) {left out : List ℕ} {num pl n : ℕ} → num ≡ number → pl ≡ place → left ≡ old → Printed left (refusalLine num pl) n out → Printed old (refusalLine number place) n out
@@ -80,6 +88,7 @@ module _ (s : List ℕ) (room : ℕ) where
       fit : (b : Bool) → Written m ≡ cond b NoRoom (Written (length (listingText s))) → m ≡ length (listingText s)
       fit true f = let z : _≡_ {A = ℕ} 0 1 = cc in absurd (omega arith)
       fit false f = cc
+
       go : (a : JobAnswer) → Written m ≡ answered a room (listingText s) → m ≡ length (listingText s)
       go (Accepted n) f = fit (ltb room (length (listingText s))) f
       go (Refused why place) f = let z : _≡_ {A = ℕ} 0 1 = cc in absurd (omega arith)

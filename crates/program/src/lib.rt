@@ -102,6 +102,7 @@ fn write_refusal(number: u32, place: usize, out: &mut [u8]) -> usize
 pub fn send(input: &[u8], out: &mut [u8; 46062]) -> usize
     ensures { λ r. ⌜ r ≡ length (sendPrints (now (input .entry))) ⌝ }
     ensures { λ _. ⌜ now (out .exit) ≡ over (now (out .entry)) (sendPrints (now (input .entry))) ⌝ }
+    ensures { λ r. ⌜ Counts r (now (out .exit)) ⌝ }
 {
     if 65536 < input.len() {
         return write_refusal(24, 0, out);
@@ -120,6 +121,7 @@ pub fn send(input: &[u8], out: &mut [u8; 46062]) -> usize
 pub fn read(engine: Engine, input: &[u8], out: &mut [u8; 48000]) -> usize
     ensures { λ r. ⌜ r ≡ length (readPrints (now (input .entry))) ⌝ }
     ensures { λ _. ⌜ now (out .exit) ≡ over (now (out .entry)) (readPrints (now (input .entry))) ⌝ }
+    ensures { λ r. ⌜ Counts r (now (out .exit)) ⌝ }
 {
     if 65536 < input.len() {
         return write_refusal(24, 0, out);

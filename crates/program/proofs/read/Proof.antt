@@ -6,7 +6,8 @@ use Rattle.base.specs.Lists.{over}
 use Rattle.listing.specs.Words.{wordsOf}
 use Rattle.reader.specs.Answers.{linesRead, numberOf, placeOf}
 use Rattle.reader.specs.declared.Reading.{Reading}
-use Rattle.program.proofs.PrintsLaws.{line-as, read-long, read-whole, read-declined}
+use Rattle.program.specs.Prints.{readPrints}
+use Rattle.program.proofs.PrintsLaws.{counted, line-as, read-long, read-whole, read-declined}
 use Rattle.program.proofs.read.Statement.{statement}
 use Rattle.program.proofs.read.Tie as tie
 
@@ -22,7 +23,9 @@ write-refusal-requires : tie.Need-write-refusal-requires
 write-refusal-requires c κs = search needs
 
 returns : tie.Need-returns
-returns c = read-long (c .before .before .before .before .args .input .now) (c .before .before .before .before .args .out .now) (c .before .before .if1 .taken) (c .write-refusal .ensures)
+returns c =
+    let a = c .before .before .before .before .args in
+    counted (a .out .now) (readPrints (a .input .now)) (read-long (a .input .now) (a .out .now) (c .before .before .if1 .taken) (c .write-refusal .ensures))
 
 read-listing-requires : tie.Need-read-listing-requires
 read-listing-requires c κs = search needs
@@ -47,15 +50,17 @@ returns-2 c =
     let v = c .before .before .before .before .before in
     let a = c .before .before .before .before .before .before .before .before .before .args in
     let told = sym (c .before .answer .given .1) in
-    read-whole (a .input .now) (a .out .now) (v .before .before .if1 .left) _ _ _ _ _ (room v) (told ∙ v .read-listing .ensures .0) (left v (sym told))
+    counted (a .out .now) (readPrints (a .input .now))
+    (read-whole (a .input .now) (a .out .now) (v .before .before .if1 .left) _ _ _ _ _ (room v) (told ∙ v .read-listing .ensures .0) (left v (sym told)))
 
 returns-3 : tie.Need-returns-3
 returns-3 c =
     let v = c .before .before .before .before .before .before in
     let a = c .before .before .before .before .before .before .before .before .before .before .args in
     let told = sym (c .before .before .enum-told .given .1) in
-    read-declined (a .input .now) (a .out .now) (v .before .before .if1 .left) _ _ (room v) (told ∙ v .read-listing .ensures .0)
-    (line-as (a .out .now) _ _ (c .before .before .before .before .before .number .ensures ∙ ap numberOf (sym told)) (c .before .before .before .before .place .ensures ∙ ap placeOf (sym told)) (left v (sym told)) (c .write-refusal2 .ensures))
+    counted (a .out .now) (readPrints (a .input .now))
+    (read-declined (a .input .now) (a .out .now) (v .before .before .if1 .left) _ _ (room v) (told ∙ v .read-listing .ensures .0)
+    (line-as (a .out .now) _ _ (c .before .before .before .before .before .number .ensures ∙ ap numberOf (sym told)) (c .before .before .before .before .place .ensures ∙ ap placeOf (sym told)) (left v (sym told)) (c .write-refusal2 .ensures)))
 
 pub read-spec : {M : Type 1} → statement M
 read-spec =

@@ -7,7 +7,8 @@ use Rattle.base.specs.Lists.{over}
 use Rattle.job_listing.specs.Listed as listed
 use Rattle.job_listing.specs.Listed.{listingText, bytesListed}
 use Rattle.job_listing.specs.declared.Listed.{Listed}
-use Rattle.program.proofs.PrintsLaws.{line-as, send-long, send-written, send-declined, send-full}
+use Rattle.program.specs.Prints.{sendPrints}
+use Rattle.program.proofs.PrintsLaws.{counted, line-as, send-long, send-written, send-declined, send-full}
 use Rattle.program.proofs.send.Statement.{statement}
 use Rattle.program.proofs.send.Tie as tie
 
@@ -23,7 +24,9 @@ write-refusal-requires : tie.Need-write-refusal-requires
 write-refusal-requires c κs = search needs
 
 returns : tie.Need-returns
-returns c = send-long (c .before .before .before .before .args .input .now) (c .before .before .before .before .args .out .now) (c .before .before .if1 .taken) (c .write-refusal .ensures)
+returns c =
+    let a = c .before .before .before .before .args in
+    counted (a .out .now) (sendPrints (a .input .now)) (send-long (a .input .now) (a .out .now) (c .before .before .if1 .taken) (c .write-refusal .ensures))
 
 list-job-requires : tie.Need-list-job-requires
 list-job-requires c κs = search needs
@@ -54,23 +57,26 @@ returns-2 c =
     let v = c .before .before .before .before .before in
     let a = c .before .before .before .before .before .before .before .before .before .args in
     let told = sym (c .before .answer .given .1) in
-    send-written (a .input .now) (a .out .now) (v .before .before .if1 .left) _ (room v) (told ∙ v .list-job .ensures .0) (left v (sym told))
+    counted (a .out .now) (sendPrints (a .input .now))
+    (send-written (a .input .now) (a .out .now) (v .before .before .if1 .left) _ (room v) (told ∙ v .list-job .ensures .0) (left v (sym told)))
 
 returns-3 : tie.Need-returns-3
 returns-3 c =
     let v = c .before .before .before .before .before .before in
     let a = c .before .before .before .before .before .before .before .before .before .before .args in
     let told = sym (c .before .before .enum-told .given .1) in
-    send-declined (a .input .now) (a .out .now) (v .before .before .if1 .left) _ _ _ (room v) (told ∙ v .list-job .ensures .0)
-    (line-as (a .out .now) _ _ (c .before .before .before .before .before .number .ensures ∙ ap listed.numberOf (sym told)) (c .before .before .before .before .place .ensures ∙ ap listed.placeOf (sym told)) (left v (sym told)) (c .write-refusal2 .ensures))
+    counted (a .out .now) (sendPrints (a .input .now))
+    (send-declined (a .input .now) (a .out .now) (v .before .before .if1 .left) _ _ _ (room v) (told ∙ v .list-job .ensures .0)
+    (line-as (a .out .now) _ _ (c .before .before .before .before .before .number .ensures ∙ ap listed.numberOf (sym told)) (c .before .before .before .before .place .ensures ∙ ap listed.placeOf (sym told)) (left v (sym told)) (c .write-refusal2 .ensures)))
 
 returns-4 : tie.Need-returns-4
 returns-4 c =
     let v = c .before .before .before .before .before .before in
     let a = c .before .before .before .before .before .before .before .before .before .before .args in
     let told = sym (c .before .before .enum-told2 .given .1) in
-    send-full (a .input .now) (a .out .now) (v .before .before .if1 .left) _ (room v) (told ∙ v .list-job .ensures .0)
-    (line-as (a .out .now) _ _ (c .before .before .before .before .before .number .ensures ∙ ap listed.numberOf (sym told)) (c .before .before .before .before .place .ensures ∙ ap listed.placeOf (sym told)) (left v (sym told)) (c .write-refusal3 .ensures))
+    counted (a .out .now) (sendPrints (a .input .now))
+    (send-full (a .input .now) (a .out .now) (v .before .before .if1 .left) _ (room v) (told ∙ v .list-job .ensures .0)
+    (line-as (a .out .now) _ _ (c .before .before .before .before .before .number .ensures ∙ ap listed.numberOf (sym told)) (c .before .before .before .before .place .ensures ∙ ap listed.placeOf (sym told)) (left v (sym told)) (c .write-refusal3 .ensures)))
 
 pub send-spec : {M : Type 1} → statement M
 send-spec =
