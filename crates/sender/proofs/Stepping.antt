@@ -116,7 +116,7 @@ module _ (xs : List Sending) (a : AllAllowed xs) where
         ∙ sym e
 
   pub stepping : Stepping (transmissionOf xs) (startOf xs)
-  stepping = record { words-then-done = all-answers; none-declined = answered; at-rest = rests }
+  stepping = record { words-then-done = all-answers; none-declined = answered; at-rest = λ given t calls l. rests given t calls (omega arith) }
 
 pub job-stepping : JobStepping
 job-stepping s n t c =
