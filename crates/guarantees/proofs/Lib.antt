@@ -13,6 +13,7 @@ pub mod Demand2
 pub mod Acceptance
 pub mod Carried
 pub mod Listed
+pub mod Programs
 pub mod Demand3
 pub mod Card
 pub mod Dash

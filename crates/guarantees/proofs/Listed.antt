@@ -14,6 +14,7 @@ use Rattle.codeword.proofs.NearestLaws.{distance-self}
 use Rattle.job.specs.Job.{jobOf}
 use Rattle.job.specs.declared.JobAnswer.{JobAnswer}
 use Rattle.job.specs.declared.JobAnswer.the-variants.{Accepted, Refused}
+use Rattle.job.proofs.RefusalLaws.{refused-number}
 use Rattle.placement.specs.Placement.{batches}
 use Rattle.transmission.specs.Sending.{Sending, sendingsOf, placementOf}
 use Rattle.transmission.specs.Transmission.{transmissionOf}
@@ -21,12 +22,12 @@ use Rattle.transmission.specs.Transmitted.{slotIndex}
 use Rattle.job_listing.specs.Listed.{listingText, answered, listedOf, bytesListed}
 use Rattle.job_listing.specs.declared.Listed.{Listed}
 use Rattle.job_listing.specs.declared.Listed.the-variants.{Written, Declined, NoRoom}
+use Rattle.job_listing.proofs.RoomLaws.{listed-written}
 use Rattle.card.specs.Answers.{bytesFor}
 use Rattle.card.specs.declared.CardBytes.{CardBytes}
 use Rattle.guarantees.specs.Transport.{flipCount, flipsIn}
 use Rattle.guarantees.specs.Listed.{ListingBack, ListJob, CardList, ReadAfterListing, ListedThenRead}
 use Rattle.guarantees.proofs.Received.{clean}
-use Rattle.job.proofs.RefusalLaws.{refused-number}
 use Rattle.guarantees.proofs.Carried.{front-fits}
 use Rattle.guarantees.proofs.Demand2.{demand2}
 
@@ -53,25 +54,9 @@ listing-back s n ok room =
 
 -- ---- what is written
 
-by-room : (short : Bool) (size n : ℕ) → cond short NoRoom (Written size) ≡ Written n → (short ≡ false) × (size ≡ n)
-by-room true size n e = let z : _≡_ {A = ℕ} 0 1 = cc in absurd (omega arith)
-by-room false size n e = (refl, cc)
-
--- where n bytes are written, the job is accepted, its listing has n bytes, and there is room for them
-by-answer : (a : JobAnswer) (room : ℕ) (text : List ℕ) (n : ℕ) → answered a room text ≡ Written n
-    → (pages : ℕ) × (a ≡ Accepted pages) × (length text ≡ n) × (n ≤ room)
-by-answer (Accepted pages) room text n e =
-    let h = by-room (ltb room (length text)) (length text) n e in
-    (pages, refl, h .1, omega (arith, ltb-false room (length text) (h .0)))
-by-answer (Refused why place) room text n e = let z : _≡_ {A = ℕ} 0 1 = cc in absurd (omega arith)
-
-answers : (s : List ℕ) (room n : ℕ) → listedOf s room ≡ Written n → (pages : ℕ) × (jobOf s ≡ Accepted pages) × (length (listingText s) ≡ n) × (n ≤ room)
-unfolding listedOf
-answers s room n e = by-answer (jobOf s) room (listingText s) n e
-
 by-list-job : (s old left : List ℕ) (n : ℕ) → ListJob s old (Written n) left → ReadAfterListing s n left
 by-list-job s old left n call =
-    let r = answers s (length old) n (sym (call .answer)) in
+    let r = listed-written s (length old) n (sym (call .answer)) in
     let front : take n left ≡ listingText s = ap (take n) (call .bytes) ∙ take-at (listingText s) (drop (length (listingText s)) old) n (r .2) in
     record {
       pages = r .0;

@@ -3,6 +3,7 @@ pub mod Transport
 pub mod Gives
 pub mod Demand2
 pub mod Listed
+pub mod Programs
 pub mod Demand3
 pub mod Card
 pub mod NothingFalse

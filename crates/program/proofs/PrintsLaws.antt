@@ -19,6 +19,7 @@ use Rattle.job.proofs.RefusalLaws.{refused-number}
 use Rattle.job_listing.specs.Listed as listed
 use Rattle.job_listing.specs.Listed.{answered, listingText, listedOf, bytesListed}
 use Rattle.job_listing.specs.declared.Listed.{Listed}
+use Rattle.job_listing.proofs.RoomLaws.{listed-written}
 use Rattle.job_listing.specs.declared.Listed.the-variants.{Written, Declined, NoRoom}
 use Rattle.listing.specs.Listing.{listingOf}
 use Rattle.listing.specs.Words.{wordsOf}
@@ -34,6 +35,7 @@ use Rattle.reader.specs.declared.Fault.the-variants.{Malformed, TooMany, Unsync
 use Rattle.reader.specs.declared.Reading.{Reading}
 use Rattle.reader.specs.declared.Reading.the-variants.{Read}
 use Rattle.reader.specs.declared.Reading.the-variants as reading
+use Rattle.reader.proofs.RoomLaws.{bytes-read}
 use Rattle.program.specs.Prints.{refusalLine, answerText, sendPrints, readPrints}
 
 -- bytes over the front of what was lent, and their number
@@ -79,44 +81,9 @@ module _ (s old : List ℕ) {n : ℕ} {out : List ℕ} where
 
 -- ---- the cases of an answer
 
-module _ (s : List ℕ) (room : ℕ) where
-  -- a listing that is written has so many bytes
-  listing-size : (m : ℕ) → Written m ≡ listedOf s room → m ≡ length (listingText s)
-  unfolding listedOf
-  listing-size m e = go (jobOf s) e
-    where
-      fit : (b : Bool) → Written m ≡ cond b NoRoom (Written (length (listingText s))) → m ≡ length (listingText s)
-      fit true f = let z : _≡_ {A = ℕ} 0 1 = cc in absurd (omega arith)
-      fit false f = cc
-
-      go : (a : JobAnswer) → Written m ≡ answered a room (listingText s) → m ≡ length (listingText s)
-      go (Accepted n) f = fit (ltb room (length (listingText s))) f
-      go (Refused why place) f = let z : _≡_ {A = ℕ} 0 1 = cc in absurd (omega arith)
-
--- the lines of a reading that is not declined have so many bytes
-module _ (words : List ℕ) (room : ℕ) {pages lost orphans : ℕ} {changed : Changes} {m : ℕ} where
-  into-size : (h : Heard) → Read pages lost orphans changed m ≡ printedInto h room → m ≡ length (linesHeard (h .pages))
-  into-size h e = go (ltb room (length (linesHeard (h .pages)))) e
-    where
-      go : (b : Bool) → Read pages lost orphans changed m ≡ cond b (reading.Declined NoBytes) (Read (length (h .pages)) (h .lost) (h .orphans) (h .changed) (length (linesHeard (h .pages)))) → m ≡ length (linesHeard (h .pages))
-      go true f = let z : _≡_ {A = ℕ} 0 1 = cc in absurd (omega arith)
-      go false f = cc
-
-  batches-size : Read pages lost orphans changed m ≡ readBatches words room → m ≡ length (linesHeard (heardIn words .pages))
-  unfolding readBatches
-  batches-size e = go (ltb (firstUnsynced words) (length words / 17)) e
-    where
-      go : (b : Bool) → Read pages lost orphans changed m ≡ cond b (reading.Declined (Unsynced (firstUnsynced words + 1))) (printedInto (heardIn words) room) → m ≡ length (linesHeard (heardIn words .pages))
-      go true f = let z : _≡_ {A = ℕ} 0 1 = cc in absurd (omega arith)
-      go false f = into-size (heardIn words) f
-
-  from-size : (l : Listing) → Read pages lost orphans changed m ≡ readFrom l words room → m ≡ length (linesHeard (heardIn words .pages))
-  from-size (WellFormed p b) e = batches-size e
-  from-size (listing.Declined why) e = let z : _≡_ {A = ℕ} 0 1 = cc in absurd (omega arith)
-
 module _ (s old : List ℕ) (h : length s ≤ 65536) {out : List ℕ} where
   pub send-written : (n : ℕ) → length old ≡ 46062 → Written n ≡ listedOf s (length old) → out ≡ over old (listingText s) → Printed old (sendPrints s) n out
-  send-written n room e o = send-is s old (Written n) h room e (listing-size s (length old) n e, o)
+  send-written n room e o = send-is s old (Written n) h room e (sym (listed-written s (length old) n (sym e) .2), o)
 
   pub send-declined : (n place : ℕ) (why : Refusal) → length old ≡ 46062 → Declined why place ≡ listedOf s (length old) → Printed old (refusalLine (refusal.numberOf why) place) n out
       → Printed old (sendPrints s) n out
@@ -129,8 +96,7 @@ module _ (s old : List ℕ) (h : length s ≤ 65536) {out : List ℕ} where
 
   pub read-whole : (n pages lost orphans : ℕ) (changed : Changes) → length old ≡ 48000 → Read pages lost orphans changed n ≡ readListing s (length old)
       → out ≡ over old (linesHeard (heardIn (wordsOf s) .pages)) → Printed old (readPrints s) n out
-  unfolding readListing
-  read-whole n pages lost orphans changed room e o = read-is s old (Read pages lost orphans changed n) h room e (from-size (wordsOf s) (length old) (listingOf s) e, o)
+  read-whole n pages lost orphans changed room e o = read-is s old (Read pages lost orphans changed n) h room e (bytes-read s (length old) e, o)
 
   pub read-declined : (n : ℕ) (why : Fault) → length old ≡ 48000 → reading.Declined why ≡ readListing s (length old)
       → Printed old (refusalLine (numberOf (reading.Declined why)) (placeOf (reading.Declined why))) n out → Printed old (readPrints s) n out

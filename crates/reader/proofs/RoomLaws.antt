@@ -17,12 +17,13 @@ use Rattle.listing.specs.declared.Listing.{Listing}
 use Rattle.listing.specs.declared.Listing.the-variants as listing
 use Rattle.listing.proofs.Indexed.{formed}
 use Rattle.reader.specs.Meaning.{meaning}
-use Rattle.reader.specs.Reading.{Hearing, State, extended, closedAs, close, take, hear, readAt, slotWord, heardIn}
+use Rattle.reader.specs.Reading.{Hearing, State, Heard, closedAs, close, take, hear, readAt, slotWord, heardIn}
 use Rattle.reader.specs.Lines.{kindHeard, lineHeard, linesHeard}
 use Rattle.reader.specs.Answers.{firstUnsynced, printedInto, readBatches, readWords, readFrom, readListing, numberOf}
 use Rattle.reader.specs.Enough.{Enough}
-use Rattle.reader.specs.declared.Fault.the-variants.{Malformed, TooMany, Unsynced}
-use Rattle.reader.specs.declared.Reading.the-variants.{Declined}
+use Rattle.reader.specs.declared.Changes.{Changes}
+use Rattle.reader.specs.declared.Fault.the-variants.{Malformed, TooMany, Unsynced, NoRoom}
+use Rattle.reader.specs.declared.Reading.the-variants.{Read, Declined}
 use Rattle.reader.specs.declared.Meaning.{Meaning}
 use Rattle.reader.specs.declared.Meaning.the-variants.{Lost, Idle, Address, Message}
 use Rattle.reader.proofs.Blocks.{lines-more}
@@ -108,3 +109,31 @@ listing-fits s room h = go (listingOf s) refl
 
 pub enough : Enough
 enough = record { of-words = words-fit; of-listing = listing-fits }
+
+-- ---- how many bytes are written
+
+module _ (words : List ℕ) (room : ℕ) {pages lost orphans : ℕ} {changed : Changes} {m : ℕ} where
+  into-size : (h : Heard) → Read pages lost orphans changed m ≡ printedInto h room → m ≡ length (linesHeard (h .pages))
+  into-size h e = go (ltb room (length (linesHeard (h .pages)))) e
+    where
+      go : (b : Bool) → Read pages lost orphans changed m ≡ cond b (Declined NoRoom) (Read (length (h .pages)) (h .lost) (h .orphans) (h .changed) (length (linesHeard (h .pages)))) → m ≡ length (linesHeard (h .pages))
+      go true f = let z : _≡_ {A = ℕ} 0 1 = cc in absurd (omega arith)
+      go false f = cc
+
+  batches-size : Read pages lost orphans changed m ≡ readBatches words room → m ≡ length (linesHeard (heardIn words .pages))
+  unfolding readBatches
+  batches-size e = go (ltb (firstUnsynced words) (length words / 17)) e
+    where
+      go : (b : Bool) → Read pages lost orphans changed m ≡ cond b (Declined (Unsynced (firstUnsynced words + 1))) (printedInto (heardIn words) room) → m ≡ length (linesHeard (heardIn words .pages))
+      go true f = let z : _≡_ {A = ℕ} 0 1 = cc in absurd (omega arith)
+      go false f = into-size (heardIn words) f
+
+  from-size : (l : Listing) → Read pages lost orphans changed m ≡ readFrom l words room → m ≡ length (linesHeard (heardIn words .pages))
+  from-size (listing.WellFormed p b) e = batches-size e
+  from-size (listing.Declined why) e = let z : _≡_ {A = ℕ} 0 1 = cc in absurd (omega arith)
+
+-- the lines of a reading that isn't declined have as many bytes as it answers
+pub bytes-read : (s : List ℕ) (room : ℕ) {pages lost orphans : ℕ} {changed : Changes} {m : ℕ} → Read pages lost orphans changed m ≡ readListing s room
+    → m ≡ length (linesHeard (heardIn (wordsOf s) .pages))
+unfolding readListing
+bytes-read s room e = from-size (wordsOf s) room (listingOf s) e

@@ -1,0 +1,57 @@
+-- The programs one into the other, and the sizes that suffice. Assumes nothing.
+use mathlib.Core.Path.{_≡_, refl, sym, ap, _∙_}
+use mathlib.Core.Logic.{⊎-elim}
+use mathlib.Core.List.{List}
+use Prim.Native.Nat.{ℕ, _*_, _≤_, _<_}
+use native.Mathlib.Omega.{arith}
+use lib.ListN.{length, take, drop}
+use lib.Seq.{take-at}
+use borrow.Author.Tests.{le-ltb}
+use Rattle.base.specs.Lists.{over}
+use Rattle.base.proofs.SearchLaws.{le-or-lt}
+use Rattle.job.specs.Job.{jobOf}
+use Rattle.job.specs.Refusal.{jobNumber, jobPlace}
+use Rattle.job.specs.declared.JobAnswer.{JobAnswer}
+use Rattle.job.specs.declared.JobAnswer.the-variants.{Accepted, Refused}
+use Rattle.job.proofs.RefusalLaws.{refused-number}
+use Rattle.transmission.specs.Sending.{sendingsOf}
+use Rattle.transmission.specs.Transmission.{transmissionOf}
+use Rattle.listing.specs.Text.{textOf}
+use Rattle.listing.specs.Words.{wordsOf}
+use Rattle.listing.proofs.TextLaws.{text-length}
+use Rattle.reader.specs.Answers.{readListing, linesRead, numberOf}
+use Rattle.reader.specs.declared.Changes.{Changes}
+use Rattle.reader.specs.declared.Reading.{Reading}
+use Rattle.reader.specs.declared.Reading.the-variants.{Read}
+use Rattle.reader.proofs.RoomLaws as reading
+use Rattle.job_listing.specs.Listed as listed
+use Rattle.job_listing.specs.Listed.{listingText, listedOf}
+use Rattle.job_listing.proofs.RoomLaws as listing
+use Rattle.program.specs.Prints.{answerText, unlessLong, sendPrints, readPrints}
+use Rattle.guarantees.specs.Transport.{Received}
+use Rattle.guarantees.specs.Gives.{Gives}
+use Rattle.guarantees.specs.Demand2.{linesInOrder}
+use Rattle.guarantees.specs.Programs.{ProgramCall, output, Programs, OneIntoTheOther, Sizes}
+use Rattle.guarantees.proofs.Demand2.{demand2}
+use Rattle.guarantees.proofs.Listed.{listing-back}
+
+-- what is printed is what the definition says
+printed : (prints : List ℕ → List ℕ) {s old left : List ℕ} {n : ℕ} → ProgramCall prints s old n left → output n left ≡ prints s
+printed prints {s} {old} {left} {n} call = ap (take n) (call .bytes) ∙ take-at (prints s) (drop (length (prints s)) old) n (sym (call .count))
+
+-- the sending program prints the job's own refusal, or its listing
+send-is : (s : List ℕ) → sendPrints s ≡ unlessLong s (answerText (jobNumber (jobOf s)) (jobPlace (jobOf s)) (listingText s))
+unfolding sendPrints
+send-is s = let e = listing.enough s 46062 (omega arith) in rw (e .0, e .1)
+
+send-listing : (s : List ℕ) (n : ℕ) → jobOf s ≡ Accepted n → length s ≤ 65536 → sendPrints s ≡ listingText s
+send-listing s n ok h = send-is s ∙ rw (le-ltb 65536 (length s) h, ok)
+
+-- a listing that gives these lines is printed so
+read-lines : (s lines : List ℕ) (pages : ℕ) (changed : Changes) → length s ≤ 65536 → Gives lines pages 0 0 changed 48000 (readListing s 48000) (wordsOf s) → readPrints s ≡ lines
+unfolding readPrints
+read-lines s lines pages changed h g =
+    let fits : length lines ≤ 48000 =
+    ⊎-elim (λ (l : length lines ≤ 48000). l) (λ (l : 48000 < length lines). absurd (reading.enough .of-listing s 48000 (omega arith) (g .declined l .0)))
+    (le-or-lt (length lines) 48000) in
+    rw (le-ltb 65536 (length s) h, ap numberOf (g .answered fits)) (g .written fits)

@@ -1,0 +1,57 @@
+-- The programs: what one prints goes into the other, and their buffers and the header's sizes suffice. `programs` and `sizes` in
+-- proofs/Programs.antt prove it.
+use mathlib.Core.Path.{_≡_}
+use mathlib.Core.List.{List}
+use Prim.Native.Nat.{ℕ, _≤_}
+use lib.ListN.{length, take}
+use Rattle.base.specs.Lists.{over}
+use Rattle.job.specs.Job.{jobOf}
+use Rattle.job.specs.Refusal.{jobNumber, jobPlace}
+use Rattle.job.specs.declared.JobAnswer.the-variants.{Accepted}
+use Rattle.transmission.specs.Sending.{sendingsOf}
+use Rattle.transmission.specs.Transmission.{transmissionOf}
+use Rattle.transmission.specs.Report as report
+use Rattle.transmission.specs.Report.{reportOf}
+use Rattle.listing.specs.Text.{textOf}
+use Rattle.reader.specs.Answers.{readWords, readListing, numberOf}
+use Rattle.job_listing.specs.Listed as listed
+use Rattle.job_listing.specs.Listed.{listingText, listedOf}
+use Rattle.program.specs.Prints.{answerText, unlessLong, sendPrints, readPrints}
+use Rattle.guarantees.specs.Transport.{Received}
+use Rattle.guarantees.specs.Demand2.{linesInOrder}
+
+-- a call of `program::send` or `program::read`, by its promises: with standard input s and lent bytes that held `old` it answers n and
+-- leaves `left`
+pub record ProgramCall (prints : List ℕ → List ℕ) (s old : List ℕ) (n : ℕ) (left : List ℕ) : Type 0 where
+  pub count : n ≡ length (prints s)
+  pub bytes : left ≡ over old (prints s)
+
+-- the bytes that are printed of it
+abbrev pub output : ℕ → List ℕ → List ℕ
+output n left = take n left
+
+-- Demand 2 of the programs: an accepted job of at most 65,536 bytes
+pub record Programs (s : List ℕ) : Type 0 where
+  -- the sending program prints its listing
+  pub sent : (old left : List ℕ) (n : ℕ) → ProgramCall sendPrints s old n left → output n left ≡ listingText s
+  -- what it prints, read by a reading program, gives the job's own page lines in the order of their slots
+  pub read-back : (old left old' left' : List ℕ) (n n' : ℕ) → ProgramCall sendPrints s old n left → ProgramCall readPrints (output n left) old' n' left'
+      → output n' left' ≡ linesInOrder s
+  -- and so does the listing of all words received for the listed ones with up to two bits flipped in each sync and frame codeword
+  pub flipped : (words old left : List ℕ) (n : ℕ) → Received 2 (transmissionOf (sendingsOf s)) words → ProgramCall readPrints (textOf words) old n left
+      → output n left ≡ linesInOrder s
+
+abbrev pub OneIntoTheOther : Type 0
+OneIntoTheOther = (s : List ℕ) (n : ℕ) → jobOf s ≡ Accepted n → length s ≤ 65536 → Programs s
+
+-- the sizes that suffice for every job and every listing, in the library, for C and in the programs: no number 10
+pub record Sizes : Type 0 where
+  -- CARD_WORDS and CARD_PAGES
+  pub words-and-slots : (s : List ℕ) (words slots : ℕ) → 5118 ≤ words → 48 ≤ slots → report.numberOf (reportOf s words slots) ≡ 10 → ⊥
+  -- CARD_LISTING_BYTES
+  pub listing : (s : List ℕ) (room : ℕ) → 46062 ≤ room → listed.numberOf (listedOf s room) ≡ 10 → ⊥
+  -- CARD_LINES_BYTES
+  pub lines-of-words : (words : List ℕ) (room : ℕ) → 48000 ≤ room → numberOf (readWords words room) ≡ 10 → ⊥
+  pub lines-of-listing : (s : List ℕ) (room : ℕ) → 48000 ≤ room → numberOf (readListing s room) ≡ 10 → ⊥
+  -- so the sending program prints number 24, or the job's own refusal, or its listing; a reading program's room is that of the line above
+  pub sending-program : (s : List ℕ) → sendPrints s ≡ unlessLong s (answerText (jobNumber (jobOf s)) (jobPlace (jobOf s)) (listingText s))
