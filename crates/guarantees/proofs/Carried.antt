@@ -2,7 +2,7 @@
 use mathlib.Core.Path.{_≡_, refl, sym, ap, _∙_}
 use mathlib.Core.Bool.{cond}
 use mathlib.Core.List.{List}
-use Prim.Native.Nat.{ℕ, _+_, _*_, _≤_, _<_}
+use Prim.Native.Nat.{ℕ, _+_, _-_, _*_, _≤_, _<_}
 use native.Mathlib.Omega.{arith}
 use lib.ListN.{length, getD, take, drop, List·getD-append}
 use lib.Seq.{take-at}
@@ -22,7 +22,7 @@ use Rattle.transmission.specs.Transmission.{Codewords, codewordsOf, addressOf, 
 use Rattle.transmission.specs.Transmitted.{slotIndex, slotWord, isAddress, addressesTo, Transmitted}
 use Rattle.transmission.specs.declared.Report.the-variants.{Sent}
 use Rattle.transmission.proofs.Sendings.{sending-at, words-at, sendings-placed, sendings-count, accepted-sendings}
-use Rattle.transmission.proofs.TransmissionLaws.{transmission-length, transmission-at}
+use Rattle.transmission.proofs.TransmissionLaws.{transmission-length, transmission-at, batches-least}
 use Rattle.transmission.proofs.Transmitted.{transmitted}
 use Rattle.sender.proofs.Stepping.{job-stepping}
 use Rattle.guarantees.specs.Demand3.{Call, page, count, slot, wordIn, InTime, AsPlaced, InWords, Carried}
@@ -174,6 +174,13 @@ module _ (s : List ℕ) (n : ℕ) (ok : jobOf s ≡ Accepted n) where
               ∙ sent .others p (λ i j h k e.
               let h′ : i < n = omega (arith, page-count s n ok) in
               free i j h′ (omega (arith, word-count i h′)) (omega (arith, slot-at i h′)));
+          closed =
+              let e = word-in (16 * b - 1) (omega (arith, says .batches-are, batches-least (accepted-sendings s n ok))) in
+              rw (e, says .batches-are) (sent .closed);
+          needed = λ q l h.
+              let x = sent .needed q (omega (arith, says .batches-are)) (rw (← word-in (16 * q + 15) (omega arith)) h) in
+              let lx : x .0 < n = omega (arith, x .1, page-count s n ok) in
+              (x .0, lx, omega (arith, x .2, slot-at (x .0) lx, word-count (x .0) lx));
           syncs = sync-count;
         }
 

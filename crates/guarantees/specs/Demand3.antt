@@ -4,7 +4,7 @@ use mathlib.Core.Path.{_≡_}
 use mathlib.Core.Bool.{true, false, cond}
 use mathlib.Core.List.{List}
 use mathlib.Core.Logic.{_⊎_}
-use Prim.Native.Nat.{ℕ, _+_, _-_, _*_, _/_, _≤_, _<_}
+use Prim.Native.Nat.{ℕ, _+_, _-_, _*_, _/_, _^_, _≤_, _<_}
 use lib.ListN.{length, getD, take}
 use lib.Dec.{eqb, leb}
 use Rattle.base.specs.Lists.{over}
@@ -113,6 +113,9 @@ pub record InWords (s : List ℕ) (n b m : ℕ) (w t : List ℕ) : Type 0 where
   pub inside : (i : ℕ) → i < n → slot t i + count s i < 16 * b
   -- all other slots are idle
   pub others : (p : ℕ) → p < 16 * b → ((i j : ℕ) → i < n → j ≤ count s i → p ≡ slot t i + j → ⊥) → wordIn w p ≡ code.idle
+  -- the last slot's word is no message codeword; of every batch before the last, the last slot's is one, or a page's codewords stand behind it
+  pub closed : wordIn w (16 * b - 1) < 2 ^ 31
+  pub needed : (q : ℕ) → q + 1 < b → wordIn w (16 * q + 15) < 2 ^ 31 → (i : ℕ) × (i < n) × (16 * q + 16 ≤ slot t i + count s i)
   -- sync stands in the words once for each reported batch
   pub syncs : sum (λ k. cond (eqb (getD w k 0) code.sync) 1 0) m ≡ b
 

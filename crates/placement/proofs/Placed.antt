@@ -140,6 +140,27 @@ module _ (job : Job) (framed : Framed job) where
       go c st′ (starts k z b r _) q _ = itsAddress k b (once s k q)
       go c st′ (rests z none) q _ = nothing
 
+  -- where the codewords of all pages stand before slot s, all is out there
+  pub out-before : (s : ℕ) → ((i : ℕ) → i < job .pages → slotOf job i + job .words i < s) → allOut job (stateAt job s) ≡ true
+  unfolding Runs
+  out-before s h = all-out job (stateAt job s) (go (stateAt job s .left) refl) unsent
+    where
+      go : (l : ℕ) → stateAt job s .left ≡ l → stateAt job s .left ≡ 0
+      go zero e = e
+      go (suc l) e =
+          let x = runs-at job framed s (omega arith) in
+          let page = stateAt job s .page in
+          let t : x .0 ≡ slotOf job page = once (x .0) page (comes job framed s page (x .0) (x .1) (x .2) .1) in
+          absurd (omega (arith, h page (x .1)))
+
+      unsent : (i : ℕ) → i < job .pages → getD (stateAt job s .sent) i 0 ≡ 0 → ⊥
+      unsent i l u =
+          omega (
+            arith,
+            u,
+            keeps-on job framed (suc (slotOf job i)) s i (slotOf job i) (omega (arith, h i l)) (marks job framed (slotOf job i) i (sent i l)),
+          )
+
   -- the pages marked before a slot are those whose slot is earlier
   marked-before : (w : ℕ → ℕ) (s : ℕ) → total job w (stateAt job s .sent) ≡ sum (λ j. cond (ltb (slotOf job j) s) (w j) 0) (job .pages)
   unfolding total

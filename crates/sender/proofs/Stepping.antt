@@ -3,7 +3,7 @@
 use Prim.Native.Nat.{ℕ, zero, suc, _≤_, _<_, zero-le, suc-le-suc}
 use mathlib.Core.Path.{_≡_, refl, sym, ap, ap₂, _∙_}
 use mathlib.Core.Logic.{⊎-elim}
-use mathlib.Core.List.{List, _∷_, _++_, map}
+use mathlib.Core.List.{List, [], _∷_, _++_, map}
 use native.Mathlib.Nat.{not-suc-le-zero, le-of-suc-le-suc, le-refl}
 use native.Mathlib.Omega.{arith}
 use lib.ListN.{length, getD, take, replicate}
@@ -49,6 +49,14 @@ listed s given u (more _ t _ a bs c cs) =
     let r : (bs ≡ tab (λ k. stepOf (after k (stepOf s .state)) .answer) (length bs)) × (u ≡ after (length bs) (stepOf s .state)) =
     rw (h .1) at (listed t bs u cs) in
     (ap₂ (λ (x : Answer) (l : List Answer). x ∷ l) (h .0) (r .0), r .1)
+
+-- there are lists of steps of every length
+some-list : (s : Sender) (n : ℕ) → (given : List Answer) × (t : Sender) × (Calls StepCall s given t) × (length given ≡ n)
+some-list s zero = ([], s, none s, refl)
+some-list s (suc n) =
+    let z = stepOf s in
+    let r = some-list (z .state) n in
+    (z .answer ∷ r .0, r .1, more s (z .state) (r .1) (z .answer) (r .0) (byValue z refl) (r .2), ap suc (r .3))
 
 -- a start answers the job, and where it accepts it, gives the state of its sendings
 pub start-is : (s : List ℕ) (a : JobAnswer) (t : Sender) → StartCall s a t → (a ≡ jobOf s) × ((n : ℕ) → jobOf s ≡ Accepted n → t ≡ startOf (sendingsOf s))
@@ -116,7 +124,7 @@ module _ (xs : List Sending) (a : AllAllowed xs) where
         ∙ sym e
 
   pub stepping : Stepping (transmissionOf xs) (startOf xs)
-  stepping = record { words-then-done = all-answers; none-declined = answered; at-rest = λ given t calls l. rests given t calls (omega arith) }
+  stepping = record { every-length = some-list (startOf xs); words-then-done = all-answers; none-declined = answered; at-rest = λ given t calls l. rests given t calls (omega arith) }
 
 pub job-stepping : JobStepping
 job-stepping s n t c =

@@ -42,6 +42,8 @@ pub data Calls {A : Type 0} (Call : Sender → A → Sender → Type 0) : Sender
 
 -- of every list of steps from the state s on, where these are the card's words
 pub record Stepping (words : List ℕ) (s : Sender) : Type 0 where
+  -- there are such lists of every length
+  pub every-length : (n : ℕ) → (given : List Answer) × (t : Sender) × (Calls StepCall s given t) × (length given ≡ n)
   -- the answers are the words from the first on, and then done for ever
   pub words-then-done : (given : List Answer) (t : Sender) → Calls StepCall s given t → given ≡ take (length given) (map Word words ++ replicate (length given) Done)
   -- none is declined

@@ -1,25 +1,26 @@
 -- Demand 3 over the words: `transmitted` proves the record `Transmitted` for the sendings of an accepted job. Assumes nothing.
 use mathlib.Core.Path.{_≡_, refl, sym, ap, _∙_}
 use mathlib.Core.Bool.{Bool, true, false, not, cond, _||_}
+use mathlib.Core.Logic.{⊎-elim}
 use mathlib.Core.List.{List}
-use Prim.Native.Nat.{ℕ, zero, suc, _+_, _*_, _/_, _^_, _≤_, _<_}
-use native.Mathlib.Nat.{add-zero, add-suc}
+use Prim.Native.Nat.{ℕ, zero, suc, _+_, _-_, _*_, _/_, _^_, _≤_, _<_}
+use native.Mathlib.Nat.{add-zero, add-suc, eq-or-lt-of-le}
 use native.Mathlib.Omega.{arith}
-use lib.Dec.{eqb, ltb}
-use borrow.Author.Tests.{ltb-true, lt-ltb, le-ltb, eq-eqb, ne-eqb}
+use lib.Dec.{eqb, ltb, leb}
+use borrow.Author.Tests.{ltb-true, lt-ltb, le-ltb, leb-true, leb-false, eq-eqb, ne-eqb}
 use Rattle.base.specs.Search.{sum}
-use Rattle.base.proofs.Bools.{true-false, and-true}
-use Rattle.base.proofs.SearchLaws.{sum-cong, sum-zeros}
+use Rattle.base.proofs.Bools.{true-false, and-true, and-both}
+use Rattle.base.proofs.SearchLaws.{least-is, sum-cong, sum-zeros}
 use Rattle.codeword.specs.Code as code
 use Rattle.codeword.specs.Code.{codeword, addressBits, messageBits}
 use Rattle.codeword.proofs.CodeLaws.{codeword-front}
 use Rattle.job.specs.Line.{isReserved}
 use Rattle.job.specs.Job.{jobOf}
 use Rattle.job.specs.declared.JobAnswer.the-variants.{Accepted}
-use Rattle.placement.specs.Placement.{Job, Framed, Content, stateAt, contentAt, batches, slotOf}
+use Rattle.placement.specs.Placement.{Job, Framed, Content, isMessage, stateAt, contentAt, allOut, endsWith, batches, slotOf}
 use Rattle.placement.specs.Promise.{Holds, nothing, itsAddress, itsMessage}
 use Rattle.placement.proofs.Bounds.{count, none-sent}
-use Rattle.placement.proofs.Placed.{placed, addresses, count-next, rank}
+use Rattle.placement.proofs.Placed.{placed, some-batch, out-before, addresses, count-next, rank}
 use Rattle.transmission.specs.Sending.{Sending, sendingsOf, sendingAt, placementOf, Allowed, AllAllowed}
 use Rattle.transmission.specs.Transmission.{Codewords, addressOf, codewordsOf, codewordIn, batchWord, wordAt}
 use Rattle.transmission.specs.Transmitted.{slotWord, isAddress, addressesTo, Coded, Transmitted}
@@ -118,6 +119,44 @@ module _ (job : Job) (framed : Framed job) (c : Codewords) (coded : Coded job c)
       let here : cond (isAddress (slotWord c job s)) 1 0 ≡ addresses (contentAt job s) = rw slot-word (address-one s _ (placed job framed .only s)) in
       omega (arith, addresses-are s, here, count-next job framed s)
 
+  -- ---- the end
+
+  -- bit 1 of a slot's word is set exactly where it is a message codeword
+  low-word : (s : ℕ) (x : Content) → Holds job s x → not (isMessage x) ≡ true → codewordIn c x < 2 ^ 31
+  unfolding codewordIn
+  low-word s x nothing e = omega arith
+  low-word s x (itsAddress i l q) e = coded .clear i l
+  low-word s x (itsMessage i j l m q) e = absurd (true-false e refl)
+
+  no-message : (s : ℕ) (x : Content) → Holds job s x → codewordIn c x < 2 ^ 31 → not (isMessage x) ≡ true
+  unfolding codewordIn
+  no-message s x nothing h = refl
+  no-message s x (itsAddress i l q) h = refl
+  no-message s x (itsMessage i j l m q) h = absurd (omega (arith, coded .set i j l m))
+
+  closes : slotWord c job (16 * batches job - 1) < 2 ^ 31
+  unfolding endsWith
+  closes =
+      let p = placed job framed in
+      let s = 16 * (batches job - 1) + 15 in
+      let e : 16 * batches job - 1 ≡ s = omega (arith, some-batch job framed) in
+      rw (e, slot-word c job s) (low-word s _ (p .only s) (and-true (allOut job (stateAt job (16 * (batches job - 1) + 16))) _ (p .ended) .1))
+
+  -- behind batch q stands a page's codeword, unless the transmission could end there
+  behind : (q : ℕ) → q + 1 < batches job → slotWord c job (16 * q + 15) < 2 ^ 31
+      → (i : ℕ) × (i < job .pages) × (16 * q + 16 ≤ slotOf job i + job .words i)
+  unfolding endsWith
+  behind q l h =
+      let p = placed job framed in
+      let r = least-is (λ i. leb (16 * q + 16) (slotOf job i + job .words i)) (job .pages) in
+      let last = no-message (16 * q + 15) _ (p .only (16 * q + 15)) (rw slot-word at h) in
+      ⊎-elim
+      (λ e. absurd (true-false
+      (and-both (out-before job framed (16 * q + 16) (λ i m. leb-false _ _ (r .before i (omega arith)))) last)
+      (p .soonest q l)))
+      (λ m. (_, m, leb-true _ _ (r .here m)))
+      (eq-or-lt-of-le (r .within))
+
   -- ---- sync
 
   one-sync : ℕ → ℕ
@@ -151,6 +190,8 @@ module _ (job : Job) (framed : Framed job) (c : Codewords) (coded : Coded job c)
         inTurn = λ i l. addresses-are (slotOf job i) ∙ sym (rank job framed (slotOf job i) i (p .sent i l));
         itsMessage = λ i j l h. slot-word c job _ ∙ ap (codewordIn c) (p .behind i j l h);
         others = λ s f. slot-word c job s ∙ idle-else s _ (p .only s) f;
+        closed = closes;
+        needed = behind;
         syncs = syncs (batches job);
       }
 

@@ -1,7 +1,7 @@
 -- Demand 3 over the words of a transmission: where document 01 says each codeword stands. `transmitted` in proofs/Transmitted.antt proves it.
 use mathlib.Core.Path.{_≡_}
 use mathlib.Core.Bool.{Bool, true, not, cond, _&&_}
-use Prim.Native.Nat.{ℕ, _+_, _*_, _/_, _%_, _^_, _≤_, _<_}
+use Prim.Native.Nat.{ℕ, _+_, _-_, _*_, _/_, _%_, _^_, _≤_, _<_}
 use lib.Dec.{eqb, ltb}
 use Rattle.base.specs.Search.{sum}
 use Rattle.codeword.specs.Code as code
@@ -41,5 +41,9 @@ pub record Transmitted (job : Job) (c : Codewords) : Type 0 where
   pub itsMessage : (i j : ℕ) → i < job .pages → j < job .words i → slotWord c job (slotOf job i + 1 + j) ≡ c .message i j
   -- and every slot that is neither is idle
   pub others : (s : ℕ) → ((i j : ℕ) → i < job .pages → j ≤ job .words i → s ≡ slotOf job i + j → ⊥) → slotWord c job s ≡ code.idle
+  -- the last slot's word is no message codeword; of every batch before the last, the last slot's is one, or a page's codewords stand behind it
+  pub closed : slotWord c job (16 * batches job - 1) < 2 ^ 31
+  pub needed : (q : ℕ) → q + 1 < batches job → slotWord c job (16 * q + 15) < 2 ^ 31
+      → (i : ℕ) × (i < job .pages) × (16 * q + 16 ≤ slotOf job i + job .words i)
   -- as many words equal to sync as there are batches
   pub syncs : sum (λ k. cond (eqb (wordAt c job k) code.sync) 1 0) (wordCount job) ≡ batches job
