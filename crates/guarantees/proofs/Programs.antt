@@ -16,6 +16,8 @@ use Rattle.job.specs.declared.JobAnswer.the-variants.{Accepted, Refused}
 use Rattle.job.proofs.RefusalLaws.{refused-number}
 use Rattle.transmission.specs.Sending.{sendingsOf}
 use Rattle.transmission.specs.Transmission.{transmissionOf}
+use Rattle.transmission.specs.Report as report
+use Rattle.transmission.specs.Report.{reportOf}
 use Rattle.listing.specs.Text.{textOf}
 use Rattle.listing.specs.Words.{wordsOf}
 use Rattle.listing.proofs.TextLaws.{text-length}
@@ -32,6 +34,7 @@ use Rattle.guarantees.specs.Transport.{Received}
 use Rattle.guarantees.specs.Gives.{Gives}
 use Rattle.guarantees.specs.Demand2.{linesInOrder}
 use Rattle.guarantees.specs.Programs.{ProgramCall, output, Programs, OneIntoTheOther, Sizes}
+use Rattle.guarantees.proofs.Acceptance.{acceptance}
 use Rattle.guarantees.proofs.Demand2.{demand2}
 use Rattle.guarantees.proofs.Listed.{listing-back}
 
@@ -55,3 +58,42 @@ read-lines s lines pages changed h g =
     ⊎-elim (λ (l : length lines ≤ 48000). l) (λ (l : 48000 < length lines). absurd (reading.enough .of-listing s 48000 (omega arith) (g .declined l .0)))
     (le-or-lt (length lines) 48000) in
     rw (le-ltb 65536 (length s) h, ap numberOf (g .answered fits)) (g .written fits)
+
+-- the listing of as many words as a transmission has is no input of over 65,536 bytes
+received-short : (s : List ℕ) (n : ℕ) → jobOf s ≡ Accepted n → (words : List ℕ) → Received 2 (transmissionOf (sendingsOf s)) words → length (textOf words) ≤ 65536
+received-short s n ok words r =
+    omega (arith, text-length 0 words, text-length 0 (transmissionOf (sendingsOf s)), listing.listing-short s n ok, r .whole)
+
+pub programs : OneIntoTheOther
+programs s n ok h =
+    let sent = send-listing s n ok h in
+    record {
+      sent = λ old left m call. printed sendPrints call ∙ sent;
+      read-back = λ old left old' left' m m' call read.
+          printed readPrints read ∙ ap readPrints (printed sendPrints call ∙ sent)
+          ∙ read-lines (listingText s) (linesInOrder s) n _ (omega (arith, listing.listing-short s n ok)) (listing-back s n ok 48000);
+      flipped = λ words old left m r read.
+          printed readPrints read ∙ read-lines (textOf words) (linesInOrder s) n _ (received-short s n ok words r) (demand2 s n ok words r .from-listing 48000);
+    }
+
+-- ---- number 10
+
+job-number : (a : JobAnswer) → jobNumber a ≡ 10 → ⊥
+job-number (Accepted n) e = omega arith
+job-number (Refused why place) e = omega (arith, refused-number why .1)
+
+sent-number : (s : List ℕ) (words slots : ℕ) → 5118 ≤ words → 48 ≤ slots → (a : JobAnswer) → jobOf s ≡ a → report.numberOf (reportOf s words slots) ≡ 10 → ⊥
+unfolding reportOf
+sent-number s words slots h k (Accepted n) e ten = omega (arith, acceptance s .enough n e words slots h k)
+sent-number s words slots h k (Refused why place) e ten =
+    let is : report.numberOf (report.answered (Refused why place) (sendingsOf s) words slots) ≡ 10 = rw e at ten in
+    omega (arith, refused-number why .1)
+
+pub sizes : Sizes
+sizes = record {
+  words-and-slots = λ s words slots h k. sent-number s words slots h k (jobOf s) refl;
+  listing = λ s room h e. job-number (jobOf s) (sym (listing.enough s room h .0) ∙ e);
+  lines-of-words = reading.enough .of-words;
+  lines-of-listing = reading.enough .of-listing;
+  sending-program = send-is;
+}

@@ -5,13 +5,13 @@ use libc::STDERR_FILENO;
 use libc::STDOUT_FILENO;
 
 fn main() {
-    let mut input = program::input_buffer();
+    let mut input = [0u8; 65537];
     let read = program::read_input(&mut input);
     if read.failed {
         io::write_all(STDERR_FILENO, b"page_read: standard input can't be read\n");
         return;
     }
-    let mut out = program::lines_buffer();
+    let mut out = [0u8; 48000];
     let n = program::read(Engine::Fast, &input[..read.bytes], &mut out);
     if !io::write_all(STDOUT_FILENO, &out[..n]) {
         io::write_all(

@@ -5,7 +5,7 @@ use libc::STDERR_FILENO;
 use libc::STDOUT_FILENO;
 
 fn main() {
-    let mut input = program::input_buffer();
+    let mut input = [0u8; 65537];
     let read = program::read_input(&mut input);
     if read.failed {
         io::write_all(
@@ -14,7 +14,7 @@ fn main() {
         );
         return;
     }
-    let mut out = program::lines_buffer();
+    let mut out = [0u8; 48000];
     let n = program::read(Engine::Slow, &input[..read.bytes], &mut out);
     if !io::write_all(STDOUT_FILENO, &out[..n]) {
         io::write_all(

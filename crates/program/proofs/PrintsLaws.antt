@@ -7,7 +7,7 @@ use native.Mathlib.Omega.{arith}
 use lib.ListN.{length, drop, length-append}
 use lib.Seq.{length-take-le}
 use lib.Dec.{ltb}
-use borrow.Author.Tests.{lt-ltb, le-ltb, ne-eqb}
+use borrow.Author.Tests.{ne-eqb}
 use Rattle.io.specs.Counts.{Counts}
 use Rattle.base.specs.Lists.{over}
 use Rattle.job.specs.Job.{jobOf}
@@ -36,7 +36,7 @@ use Rattle.reader.specs.declared.Reading.{Reading}
 use Rattle.reader.specs.declared.Reading.the-variants.{Read}
 use Rattle.reader.specs.declared.Reading.the-variants as reading
 use Rattle.reader.proofs.RoomLaws.{bytes-read}
-use Rattle.program.specs.Prints.{refusalLine, answerText, sendPrints, readPrints}
+use Rattle.program.specs.Prints.{isLong, refusalLine, answerText, sendPrints, readPrints}
 
 -- bytes over the front of what was lent, and their number
 abbrev pub Printed : List ℕ → List ℕ → ℕ → List ℕ → Type 0
@@ -57,31 +57,31 @@ line-as old number place a b e p = rw (a, b, e) at p
 
 module _ (s old : List ℕ) {n : ℕ} {out : List ℕ} where
   -- number 24
-  pub send-long : 65536 < length s → Printed old (refusalLine 24 0) n out → Printed old (sendPrints s) n out
+  pub send-long : isLong s ≡ true → Printed old (refusalLine 24 0) n out → Printed old (sendPrints s) n out
   unfolding sendPrints
-  send-long h p = same old (refusalLine 24 0) (sendPrints s) out n (rw (lt-ltb 65536 (length s) h)) p
+  send-long h p = same old (refusalLine 24 0) (sendPrints s) out n (rw h) p
 
-  pub read-long : 65536 < length s → Printed old (refusalLine 24 0) n out → Printed old (readPrints s) n out
+  pub read-long : isLong s ≡ true → Printed old (refusalLine 24 0) n out → Printed old (readPrints s) n out
   unfolding readPrints
-  read-long h p = same old (refusalLine 24 0) (readPrints s) out n (rw (lt-ltb 65536 (length s) h)) p
+  read-long h p = same old (refusalLine 24 0) (readPrints s) out n (rw h) p
 
   -- the listing, or the line of its refusal
-  pub send-is : (l : Listed) → length s ≤ 65536 → length old ≡ 46062 → l ≡ listedOf s (length old)
+  pub send-is : (l : Listed) → isLong s ≡ false → length old ≡ 46062 → l ≡ listedOf s (length old)
       → Printed old (answerText (listed.numberOf l) (listed.placeOf l) (listingText s)) n out → Printed old (sendPrints s) n out
   unfolding sendPrints
   send-is l h room e p =
-      same old (answerText (listed.numberOf l) (listed.placeOf l) (listingText s)) (sendPrints s) out n (rw (le-ltb 65536 (length s) h, e, room)) p
+      same old (answerText (listed.numberOf l) (listed.placeOf l) (listingText s)) (sendPrints s) out n (rw (h, e, room)) p
 
   -- the lines, or the line of the listing's refusal
-  pub read-is : (r : Reading) → length s ≤ 65536 → length old ≡ 48000 → r ≡ readListing s (length old)
+  pub read-is : (r : Reading) → isLong s ≡ false → length old ≡ 48000 → r ≡ readListing s (length old)
       → Printed old (answerText (numberOf r) (placeOf r) (linesRead r (wordsOf s))) n out → Printed old (readPrints s) n out
   unfolding readPrints
   read-is r h room e p =
-      same old (answerText (numberOf r) (placeOf r) (linesRead r (wordsOf s))) (readPrints s) out n (rw (le-ltb 65536 (length s) h, e, room)) p
+      same old (answerText (numberOf r) (placeOf r) (linesRead r (wordsOf s))) (readPrints s) out n (rw (h, e, room)) p
 
 -- ---- the cases of an answer
 
-module _ (s old : List ℕ) (h : length s ≤ 65536) {out : List ℕ} where
+module _ (s old : List ℕ) (h : isLong s ≡ false) {out : List ℕ} where
   pub send-written : (n : ℕ) → length old ≡ 46062 → Written n ≡ listedOf s (length old) → out ≡ over old (listingText s) → Printed old (sendPrints s) n out
   send-written n room e o = send-is s old (Written n) h room e (sym (listed-written s (length old) n (sym e) .2), o)
 

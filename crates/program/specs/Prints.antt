@@ -1,6 +1,6 @@
 -- What the programs print for their standard input (document 01, "The two programs", and number 24 of its table).
 use Prim.Native.Nat.{ℕ, suc, _^_}
-use mathlib.Core.Bool.{cond}
+use mathlib.Core.Bool.{Bool, cond}
 use mathlib.Core.List.{List, [], _∷_, _++_}
 use lib.ListN.{length}
 use lib.Dec.{eqb, ltb}
@@ -35,9 +35,13 @@ refusalLine n p = refused ++ (decimal n ++ (place ++ (decimal p ++ (10 ∷ [])))
 abbrev pub answerText : ℕ → ℕ → List ℕ → List ℕ
 answerText n p text = cond (eqb n 0) text (refusalLine n p)
 
--- number 24, for an input of over 65,536 bytes, comes before all others
+-- an input of over 65,536 bytes: number 24
+abbrev pub isLong : List ℕ → Bool
+isLong input = ltb 65536 (length input)
+
+-- which comes before all others
 abbrev pub unlessLong : List ℕ → List ℕ → List ℕ
-unlessLong input text = cond (ltb 65536 (length input)) (refusalLine 24 0) text
+unlessLong input text = cond (isLong input) (refusalLine 24 0) text
 
 -- the sending program, which has room for 46,062 bytes: a job's listing
 unfoldable pub sendPrints : List ℕ → List ℕ

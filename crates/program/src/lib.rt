@@ -3,10 +3,10 @@
 ghost use mathlib.Core.Path.{_≡_};
 ghost use mathlib.Core.List.{_++_};
 ghost use Prim.Native.Nat.{_+_, _≤_};
-ghost use lib.ListN.{length, take, drop, replicate};
+ghost use lib.ListN.{length, take, drop};
 ghost use Rattle.io.specs.Counts.{Counts};
 ghost use Rattle.base.specs.Lists.{over};
-ghost use Rattle.program.specs.Prints.{decimal, refusalLine, sendPrints, readPrints};
+ghost use Rattle.program.specs.Prints.{isLong, decimal, refusalLine, sendPrints, readPrints};
 use codeword::Engine;
 use job_listing::Listed;
 use libc::STDIN_FILENO;
@@ -18,29 +18,8 @@ pub struct Input {
     pub failed: bool,
 }
 
-// Room for standard input, and one byte more: number 24 is for an input of over 65,536 bytes.
-pub fn input_buffer() -> [u8; 65537]
-    ensures { λ r. ⌜ r ≡ replicate 65537 0 ⌝ }
-{
-    [0; 65537]
-}
-
-// Room for the listing of every job: nine bytes for each of 5,118 words.
-pub fn listing_buffer() -> [u8; 46062]
-    ensures { λ r. ⌜ r ≡ replicate 46062 0 ⌝ }
-{
-    [0; 46062]
-}
-
-// Room for the lines of every listing: ten bytes for each of 4,800 slots.
-pub fn lines_buffer() -> [u8; 48000]
-    ensures { λ r. ⌜ r ≡ replicate 48000 0 ⌝ }
-{
-    [0; 48000]
-}
-
-// Reads standard input up to its end, or until the slice is full or a read fails. Of the bytes no contract can speak.
-pub fn read_input(input: &mut [u8]) -> Input
+// Reads standard input up to its end, or until the slice is full or a read fails. Of the bytes themselves no contract can speak.
+fn read_into(input: &mut [u8]) -> Input
     ensures { λ r. ⌜ Counts (r .bytes) (now (input .exit)) ⌝ }
 {
     let mut n = 0;
@@ -62,6 +41,20 @@ pub fn read_input(input: &mut [u8]) -> Input
         bytes: n,
         failed: false,
     }
+}
+
+// Reads standard input. There is room for one byte more than an input may have, so that a longer one is told.
+pub fn read_input(input: &mut [u8; 65537]) -> Input
+    ensures { λ r. ⌜ Counts (r .bytes) (now (input .exit)) ⌝ }
+{
+    read_into(input)
+}
+
+// Whether an input is over 65,536 bytes: number 24.
+fn is_long(input: &[u8]) -> bool
+    ensures { λ r. ⌜ r ≡ isLong (now (input .entry)) ⌝ }
+{
+    65536 < input.len()
 }
 
 // Writes bytes behind those that stand at the front of a slice, and answers where they end.
@@ -104,7 +97,7 @@ pub fn send(input: &[u8], out: &mut [u8; 46062]) -> usize
     ensures { λ _. ⌜ now (out .exit) ≡ over (now (out .entry)) (sendPrints (now (input .entry))) ⌝ }
     ensures { λ r. ⌜ Counts r (now (out .exit)) ⌝ }
 {
-    if 65536 < input.len() {
+    if is_long(input) {
         return write_refusal(24, 0, out);
     }
     let answer = job_listing::list_job(input, out);
@@ -123,7 +116,7 @@ pub fn read(engine: Engine, input: &[u8], out: &mut [u8; 48000]) -> usize
     ensures { λ _. ⌜ now (out .exit) ≡ over (now (out .entry)) (readPrints (now (input .entry))) ⌝ }
     ensures { λ r. ⌜ Counts r (now (out .exit)) ⌝ }
 {
-    if 65536 < input.len() {
+    if is_long(input) {
         return write_refusal(24, 0, out);
     }
     let answer = reader::read_listing(engine, input, out);

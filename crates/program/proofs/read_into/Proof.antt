@@ -1,4 +1,4 @@
--- `program::read_input` meets its contract: each read that gives something leaves less to be read. Assumes nothing.
+-- `program::read_into` meets its contract: each read that gives something leaves less to be read. Assumes nothing.
 use mathlib.Core.Path.{_≡_, sym}
 use mathlib.Core.List.{List}
 use Prim.Native.Nat.{ℕ, _-_, _≤_}
@@ -7,8 +7,8 @@ use lib.Seq.{length-take-le}
 use borrow.Author.Needs.{needs}
 use borrow.Rule.Slice.PartMut.{putMid}
 use Rattle.io.specs.Counts.{Counts}
-use Rattle.program.proofs.read_input.Statement.{statement}
-use Rattle.program.proofs.read_input.Tie as tie
+use Rattle.program.proofs.read_into.Statement.{statement}
+use Rattle.program.proofs.read_into.Tie as tie
 
 -- so many bytes at the front
 counts : (n : ℕ) (bytes : List ℕ) → n ≤ length bytes → Counts n bytes
@@ -78,8 +78,8 @@ returns-3 c =
     let at = c .before .before .before .before .before .before .before .before .before .before .loop in
     counts (at .n) (putMid (at .n) (length (at .input) - at .n) (at .input) (c .before .before .before .before .before .before .before .read .last .1 .0)) (search needs)
 
-pub read-input-spec : {M : Type 1} → statement M
-read-input-spec =
+pub read-into-spec : {M : Type 1} → statement M
+read-into-spec =
     tie.close
     (tie.spec
     Inv-loop
