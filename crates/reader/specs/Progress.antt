@@ -9,6 +9,7 @@ use lib.ListN.{length, getD, take}
 use Rattle.codeword.specs.Code.{idle}
 use Rattle.reader.specs.Reading.{Hearing, State, close}
 use Rattle.reader.specs.Lines.{linesHeard}
+use Rattle.reader.specs.Answers.{firstUnsynced}
 use Rattle.reader.specs.Symbols.{stateBy, pageIn}
 use Rattle.reader.specs.declared.Progress.{Progress}
 
@@ -17,6 +18,14 @@ pub record Buffers (symbols digits lines : List ℕ) : Type 0 where
   pub slots : length symbols ≤ 4800
   pub room : 10 * length symbols ≤ length digits
   pub space : 11 * length symbols ≤ length lines
+
+-- at most 300 batches, which all begin with sync, with room for their symbols, digits and lines
+pub record Room (words : List ℕ) (symbols digits lines : ℕ) : Type 0 where
+  pub few : length words ≤ 5100
+  pub synced : length words / 17 ≤ firstUnsynced words
+  pub slots : 16 * (length words / 17) ≤ symbols
+  pub room : 160 * (length words / 17) ≤ digits
+  pub space : 176 * (length words / 17) ≤ lines
 
 -- The open page before slot s, by one more than its address's slot; 0 where none is open. The closed pages, so many with so many bytes
 -- of lines, fill no more slots than there are before it.

@@ -8,11 +8,11 @@ ghost use Rattle.listing.specs.Words.{wordsOf};
 ghost use Rattle.text.specs.Answer.{heardDigits};
 ghost use Rattle.reader.specs.Meaning.{codewordMeaning, meaning, isSync};
 ghost use Rattle.reader.specs.Changed.{unlessLost, slotChanged, slotsChanged, syncsChanged};
-ghost use Rattle.reader.specs.Reading.{closedAs, slotWord, syncWord};
+ghost use Rattle.reader.specs.Reading.{closedAs, slotWord, syncWord, heardIn};
 ghost use Rattle.reader.specs.Lines.{kindHeard, fives, digitsHeard, lineHeard};
 ghost use Rattle.reader.specs.Answers.{firstUnsynced, printedInto, linesOf, readBatches, readWords, faultOf, readListing, linesRead, numberOf, placeOf};
 ghost use Rattle.reader.specs.Symbols.{said, Tells, stateBy, heardBy, pageIn, Printable};
-ghost use Rattle.reader.specs.Progress.{Buffers, Messages, Idles, Quiet, withMessages, Kept, KeptAll, closed};
+ghost use Rattle.reader.specs.Progress.{Buffers, Room, Messages, Idles, Quiet, withMessages, Kept, KeptAll, closed};
 use codeword::Codeword;
 use codeword::Correction;
 use codeword::Engine;
@@ -460,43 +460,49 @@ fn read_into(
     }
 }
 
-// Reads the slots of at most 16 batches: to clear the room for 300 would take longer than to read these.
-fn read_few(symbols: &[u32], changed: Changes, out: &mut [u8]) -> Reading
-    requires { ⌜ length (now symbols) ≤ 256 ⌝ }
-    ensures { λ r. ⌜ r ≡ printedInto (heardBy (now (symbols .entry)) changed) (length (now (out .entry))) ⌝ }
-    ensures { λ r. ⌜ now (out .exit) ≡ over (now (out .entry)) (linesOf r (heardBy (now (symbols .entry)) changed)) ⌝ }
+// Reads whole batches that all begin with sync, with room lent for their slots' symbols, for digits and for lines.
+fn read_synced(
+    engine: Engine,
+    words: &[u32],
+    symbols: &mut [u32],
+    digits: &mut [u8],
+    lines: &mut [u8],
+    out: &mut [u8],
+) -> Reading
+    requires { ⌜ Room (now words) (length (now symbols)) (length (now digits)) (length (now lines)) ⌝ }
+    ensures { λ r. ⌜ r ≡ printedInto (heardIn (now (words .entry))) (length (now (out .entry))) ⌝ }
+    ensures { λ r. ⌜ now (out .exit) ≡ over (now (out .entry)) (linesRead r (now (words .entry))) ⌝ }
 {
+    let slots = 16 * (words.len() / 17);
+    let changed = Changes {
+        slots: read_slots(engine, words, &mut symbols[..slots]),
+        syncs: syncs_changed(words),
+    };
+    read_into(&symbols[..slots], changed, digits, lines, out)
+}
+
+// Reads at most 16 batches that all begin with sync: to clear the room for 300 would take longer than to read these.
+fn read_few(engine: Engine, words: &[u32], out: &mut [u8]) -> Reading
+    requires { ⌜ Room (now words) 256 2560 2816 ⌝ }
+    ensures { λ r. ⌜ r ≡ printedInto (heardIn (now (words .entry))) (length (now (out .entry))) ⌝ }
+    ensures { λ r. ⌜ now (out .exit) ≡ over (now (out .entry)) (linesRead r (now (words .entry))) ⌝ }
+{
+    let mut symbols = [0u32; 256];
     let mut digits = [0u8; 2560];
     let mut lines = [0u8; 2816];
-    read_into(symbols, changed, &mut digits, &mut lines, out)
+    read_synced(engine, words, &mut symbols, &mut digits, &mut lines, out)
 }
 
-// Reads the slots of at most 300 batches.
-fn read_many(symbols: &[u32], changed: Changes, out: &mut [u8]) -> Reading
-    requires { ⌜ length (now symbols) ≤ 4800 ⌝ }
-    ensures { λ r. ⌜ r ≡ printedInto (heardBy (now (symbols .entry)) changed) (length (now (out .entry))) ⌝ }
-    ensures { λ r. ⌜ now (out .exit) ≡ over (now (out .entry)) (linesOf r (heardBy (now (symbols .entry)) changed)) ⌝ }
+// Reads at most 300 batches that all begin with sync.
+fn read_many(engine: Engine, words: &[u32], out: &mut [u8]) -> Reading
+    requires { ⌜ Room (now words) 4800 48000 52800 ⌝ }
+    ensures { λ r. ⌜ r ≡ printedInto (heardIn (now (words .entry))) (length (now (out .entry))) ⌝ }
+    ensures { λ r. ⌜ now (out .exit) ≡ over (now (out .entry)) (linesRead r (now (words .entry))) ⌝ }
 {
+    let mut symbols = [0u32; 4800];
     let mut digits = [0u8; 48000];
     let mut lines = [0u8; 52800];
-    read_into(symbols, changed, &mut digits, &mut lines, out)
-}
-
-// Reads slots by their symbols: the lines go to the front of the bytes, where there is room for all of them.
-fn read_symbols(symbols: &[u32], changed: Changes, out: &mut [u8]) -> Reading
-    requires { ⌜ length (now symbols) ≤ 4800 ⌝ }
-    ensures { λ r. ⌜ r ≡ printedInto (heardBy (now (symbols .entry)) changed) (length (now (out .entry))) ⌝ }
-    ensures { λ r. ⌜ now (out .exit) ≡ over (now (out .entry)) (linesOf r (heardBy (now (symbols .entry)) changed)) ⌝ }
-{
-    if symbols.len() <= 256 {
-        return read_few(symbols, changed, out);
-    }
-    read_many(symbols, changed, out)
-}
-
-// Room for the symbols of 300 batches.
-fn blank_symbols() -> [u32; 4800] {
-    [0u32; 4800]
+    read_synced(engine, words, &mut symbols, &mut digits, &mut lines, out)
 }
 
 // Reads whole batches, 300 at most.
@@ -511,13 +517,10 @@ fn read_batches(engine: Engine, words: &[u32], out: &mut [u8]) -> Reading
         let batch = first + 1;
         return Reading::Declined(Fault::Unsynced(batch));
     }
-    let mut symbols = blank_symbols();
-    let slots = 16 * batches;
-    let changed = Changes {
-        slots: read_slots(engine, words, &mut symbols[..slots]),
-        syncs: syncs_changed(words),
-    };
-    read_symbols(&symbols[..slots], changed, out)
+    if batches <= 16 {
+        return read_few(engine, words, out);
+    }
+    read_many(engine, words, out)
 }
 
 // Reads a slice of words, batches only: the lines of the pages go to the front of the bytes, and what stands behind them keeps its value.
