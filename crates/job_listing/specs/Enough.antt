@@ -7,6 +7,6 @@ use Rattle.job.specs.Refusal.{jobNumber, jobPlace}
 use Rattle.job_listing.specs.Listed.{listedOf, numberOf, placeOf}
 
 -- 46,062 bytes, nine for each of 5,118 words, suffice for the listing of every job: into so much room the answer has the job's own number
--- and place. `enough` in proofs/ListedLaws.antt proves it
+-- and place. `enough` in proofs/RoomLaws.antt proves it
 abbrev pub Enough : Type 0
 Enough = (s : List ℕ) (room : ℕ) → 46062 ≤ room → (numberOf (listedOf s room) ≡ jobNumber (jobOf s)) × (placeOf (listedOf s room) ≡ jobPlace (jobOf s))

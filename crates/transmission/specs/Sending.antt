@@ -1,5 +1,5 @@
--- A page as it is sent: the one record of it for the whole library. What is text becomes groups here, and what is transport
--- (placement, codewords, steps, reading) knows nothing of lines and texts.
+-- A page as it is sent: the one record of it for the whole library. What is text becomes groups here; placement and codewords know
+-- nothing of lines and texts.
 use Prim.Native.Nat.{ℕ, _%_, _^_, _≤_, _<_}
 use mathlib.Core.Path.{_≡_}
 use mathlib.Core.Bool.{false}
