@@ -1,25 +1,19 @@
 -- Demand 2 of the calls that write a listing. Assumes nothing.
 use mathlib.Core.Path.{_≡_, refl, sym, ap, _∙_}
-use mathlib.Core.Bool.{Bool, true, false, cond}
 use mathlib.Core.List.{List}
-use Prim.Native.Nat.{ℕ, _+_, _*_, _≤_}
+use Prim.Native.Nat.{ℕ, _+_, _*_}
 use native.Mathlib.Omega.{arith}
 use lib.ListN.{length, getD, take, drop}
 use lib.Seq.{take-at}
-use lib.Dec.{ltb}
-use borrow.Author.Tests.{ltb-false}
 use Rattle.base.specs.Lists.{over}
 use Rattle.base.proofs.SearchLaws.{sum-cong, sum-zeros}
 use Rattle.codeword.proofs.NearestLaws.{distance-self}
-use Rattle.job.specs.Job.{jobOf}
-use Rattle.job.specs.declared.JobAnswer.{JobAnswer}
-use Rattle.job.specs.declared.JobAnswer.the-variants.{Accepted, Refused}
 use Rattle.job.proofs.RefusalLaws.{refused-number}
 use Rattle.placement.specs.Placement.{batches}
 use Rattle.transmission.specs.Sending.{Sending, sendingsOf, placementOf}
 use Rattle.transmission.specs.Transmission.{transmissionOf}
 use Rattle.transmission.specs.Transmitted.{slotIndex}
-use Rattle.job_listing.specs.Listed.{listingText, answered, listedOf, bytesListed}
+use Rattle.job_listing.specs.Listed.{listingText, listedOf, bytesListed}
 use Rattle.job_listing.specs.declared.Listed.{Listed}
 use Rattle.job_listing.specs.declared.Listed.the-variants.{Written, Declined, NoRoom}
 use Rattle.job_listing.proofs.RoomLaws.{listed-written}

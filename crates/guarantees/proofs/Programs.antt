@@ -2,12 +2,11 @@
 use mathlib.Core.Path.{_≡_, refl, sym, ap, _∙_}
 use mathlib.Core.Logic.{⊎-elim}
 use mathlib.Core.List.{List}
-use Prim.Native.Nat.{ℕ, _*_, _≤_, _<_}
+use Prim.Native.Nat.{ℕ, _≤_, _<_}
 use native.Mathlib.Omega.{arith}
 use lib.ListN.{length, take, drop}
 use lib.Seq.{take-at}
 use borrow.Author.Tests.{le-ltb}
-use Rattle.base.specs.Lists.{over}
 use Rattle.base.proofs.SearchLaws.{le-or-lt}
 use Rattle.job.specs.Job.{jobOf}
 use Rattle.job.specs.Refusal.{jobNumber, jobPlace}
@@ -21,19 +20,16 @@ use Rattle.transmission.specs.Report.{reportOf}
 use Rattle.listing.specs.Text.{textOf}
 use Rattle.listing.specs.Words.{wordsOf}
 use Rattle.listing.proofs.TextLaws.{text-length}
-use Rattle.reader.specs.Answers.{readListing, linesRead, numberOf}
+use Rattle.reader.specs.Answers.{readListing, linesRead, numberOf, placeOf}
 use Rattle.reader.specs.declared.Changes.{Changes}
-use Rattle.reader.specs.declared.Reading.{Reading}
-use Rattle.reader.specs.declared.Reading.the-variants.{Read}
 use Rattle.reader.proofs.RoomLaws as reading
-use Rattle.job_listing.specs.Listed as listed
-use Rattle.job_listing.specs.Listed.{listingText, listedOf}
+use Rattle.job_listing.specs.Listed.{listingText}
 use Rattle.job_listing.proofs.RoomLaws as listing
 use Rattle.program.specs.Prints.{answerText, unlessLong, sendPrints, readPrints}
 use Rattle.guarantees.specs.Transport.{Received}
 use Rattle.guarantees.specs.Gives.{Gives}
 use Rattle.guarantees.specs.Demand2.{linesInOrder}
-use Rattle.guarantees.specs.Programs.{ProgramCall, output, Programs, OneIntoTheOther, Sizes}
+use Rattle.guarantees.specs.Programs.{ProgramCall, output, OneIntoTheOther, Sizes}
 use Rattle.guarantees.proofs.Acceptance.{acceptance}
 use Rattle.guarantees.proofs.Demand2.{demand2}
 use Rattle.guarantees.proofs.Listed.{listing-back}
@@ -89,6 +85,11 @@ sent-number s words slots h k (Refused why place) e ten =
     let is : report.numberOf (report.answered (Refused why place) (sendingsOf s) words slots) ≡ 10 = rw e at ten in
     omega (arith, refused-number why .1)
 
+read-is : (s : List ℕ) (room : ℕ) → 48000 ≤ room
+    → readPrints s ≡ unlessLong s (answerText (numberOf (readListing s room)) (placeOf (readListing s room)) (linesRead (readListing s room) (wordsOf s)))
+unfolding readPrints
+read-is s room h = rw (reading.listing-same s room h)
+
 pub sizes : Sizes
 sizes = record {
   words-and-slots = λ s words slots h k. sent-number s words slots h k (jobOf s) refl;
@@ -96,4 +97,5 @@ sizes = record {
   lines-of-words = reading.enough .of-words;
   lines-of-listing = reading.enough .of-listing;
   sending-program = send-is;
+  reading-program = read-is;
 }

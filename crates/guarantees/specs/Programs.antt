@@ -13,7 +13,8 @@ use Rattle.transmission.specs.Transmission.{transmissionOf}
 use Rattle.transmission.specs.Report as report
 use Rattle.transmission.specs.Report.{reportOf}
 use Rattle.listing.specs.Text.{textOf}
-use Rattle.reader.specs.Answers.{readWords, readListing, numberOf}
+use Rattle.listing.specs.Words.{wordsOf}
+use Rattle.reader.specs.Answers.{readWords, readListing, linesRead, numberOf, placeOf}
 use Rattle.job_listing.specs.Listed as listed
 use Rattle.job_listing.specs.Listed.{listingText, listedOf}
 use Rattle.program.specs.Prints.{answerText, unlessLong, sendPrints, readPrints}
@@ -53,5 +54,8 @@ pub record Sizes : Type 0 where
   -- CARD_LINES_BYTES
   pub lines-of-words : (words : List ℕ) (room : ℕ) → 48000 ≤ room → numberOf (readWords words room) ≡ 10 → ⊥
   pub lines-of-listing : (s : List ℕ) (room : ℕ) → 48000 ≤ room → numberOf (readListing s room) ≡ 10 → ⊥
-  -- so the sending program prints number 24, or the job's own refusal, or its listing; a reading program's room is that of the line above
+  -- so the sending program prints number 24, or the job's own refusal, or its listing
   pub sending-program : (s : List ℕ) → sendPrints s ≡ unlessLong s (answerText (jobNumber (jobOf s)) (jobPlace (jobOf s)) (listingText s))
+  -- and a reading program what it would print with any more room
+  pub reading-program : (s : List ℕ) (room : ℕ) → 48000 ≤ room
+      → readPrints s ≡ unlessLong s (answerText (numberOf (readListing s room)) (placeOf (readListing s room)) (linesRead (readListing s room) (wordsOf s)))

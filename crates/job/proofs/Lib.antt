@@ -5,3 +5,4 @@ pub mod Accepted
 pub mod PrintLaws
 pub mod RefusalLaws
 pub mod Printed
+pub mod Settled

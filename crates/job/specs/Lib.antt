@@ -5,3 +5,4 @@ pub mod Job
 pub mod Accepted
 pub mod Print
 pub mod PrintsBack
+pub mod Settled

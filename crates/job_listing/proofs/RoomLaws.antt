@@ -50,4 +50,4 @@ enough-by s room h (Refused why place) e = (refl, refl)
 
 pub enough : Enough
 unfolding listedOf
-enough s room h = enough-by s room h (jobOf s) refl
+enough s room h = enough-by s room (omega arith) (jobOf s) refl

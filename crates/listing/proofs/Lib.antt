@@ -4,3 +4,4 @@ pub mod Indexed
 pub mod TextLaws
 pub mod Decoding
 pub mod Back
+pub mod Settled

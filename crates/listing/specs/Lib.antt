@@ -6,3 +6,4 @@ pub mod Writing
 pub mod Formed
 pub mod ReadBack
 pub mod Scan
+pub mod Settled

@@ -1,34 +1,26 @@
 -- What the programs print, case by case, as the code goes. Assumes nothing.
-use mathlib.Core.Path.{_≡_, refl, sym, ap, _∙_}
-use mathlib.Core.Bool.{Bool, true, false, cond}
+use mathlib.Core.Path.{_≡_, sym, ap, _∙_}
+use mathlib.Core.Bool.{true, false}
 use mathlib.Core.List.{List}
-use Prim.Native.Nat.{ℕ, _+_, _/_, _≤_, _<_}
+use Prim.Native.Nat.{ℕ, _≤_}
 use native.Mathlib.Omega.{arith}
 use lib.ListN.{length, drop, length-append}
 use lib.Seq.{length-take-le}
-use lib.Dec.{ltb}
 use borrow.Author.Tests.{ne-eqb}
 use Rattle.io.specs.Counts.{Counts}
 use Rattle.base.specs.Lists.{over}
-use Rattle.job.specs.Job.{jobOf}
 use Rattle.job.specs.Refusal as refusal
 use Rattle.job.specs.declared.Refusal.{Refusal}
-use Rattle.job.specs.declared.JobAnswer.{JobAnswer}
-use Rattle.job.specs.declared.JobAnswer.the-variants.{Accepted, Refused}
 use Rattle.job.proofs.RefusalLaws.{refused-number}
 use Rattle.job_listing.specs.Listed as listed
-use Rattle.job_listing.specs.Listed.{answered, listingText, listedOf, bytesListed}
+use Rattle.job_listing.specs.Listed.{listingText, listedOf}
 use Rattle.job_listing.specs.declared.Listed.{Listed}
 use Rattle.job_listing.proofs.RoomLaws.{listed-written}
 use Rattle.job_listing.specs.declared.Listed.the-variants.{Written, Declined, NoRoom}
-use Rattle.listing.specs.Listing.{listingOf}
 use Rattle.listing.specs.Words.{wordsOf}
-use Rattle.listing.specs.declared.Listing.{Listing}
-use Rattle.listing.specs.declared.Listing.the-variants.{WellFormed}
-use Rattle.listing.specs.declared.Listing.the-variants as listing
-use Rattle.reader.specs.Reading.{Heard, heardIn}
+use Rattle.reader.specs.Reading.{heardIn}
 use Rattle.reader.specs.Lines.{linesHeard}
-use Rattle.reader.specs.Answers.{firstUnsynced, printedInto, readBatches, readFrom, readListing, linesRead, numberOf, placeOf}
+use Rattle.reader.specs.Answers.{readListing, linesRead, numberOf, placeOf}
 use Rattle.reader.specs.declared.Changes.{Changes}
 use Rattle.reader.specs.declared.Fault.{Fault}
 use Rattle.reader.specs.declared.Fault.the-variants.{Malformed, TooMany, Unsynced, NoRoom as NoBytes}

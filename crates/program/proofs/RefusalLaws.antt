@@ -1,22 +1,20 @@
 -- The line of a refusal, part by part. Assumes nothing.
 use mathlib.Core.Path.{_≡_, refl, sym, ap, _∙_}
-use mathlib.Core.Bool.{true, false}
 use mathlib.Core.List.{List, [], _∷_, _++_, append-nil, append-assoc}
 use Prim.Native.Nat.{ℕ, zero, suc, _+_, _-_, _/_, _%_, _^_, _≤_, _<_}
 use native.Mathlib.Omega.{arith}
 use native.Mathlib.Numerals.{add-one}
 use native.Mathlib.Nat.{pow-le-pow-right}
 use mathlib.Core.Logic.{⊎-elim}
-use lib.ListN.{length, take, drop, length-append, length-drop, length-take, drop-of-length-le}
+use lib.ListN.{length, take, drop, length-append, length-drop, drop-of-length-le}
 use lib.Seq.{take-length}
 use lib.Dec.{ltb}
 use borrow.Author.Tests.{lt-ltb, le-ltb}
 use Rattle.io.specs.Digits.{glyph, digits, Fewest}
 use Rattle.base.specs.Lists.{over}
-use Rattle.base.specs.Search.{least}
 use Rattle.base.proofs.ListLaws.{to-end, over-part, over-length}
 use Rattle.base.proofs.SearchLaws.{le-or-lt, least-is, least-only}
-use Rattle.program.specs.Prints.{decimalLength, decimal, refused, place, refusalLine}
+use Rattle.program.specs.Prints.{decimalLength, decimal, refusedWord, placeWord, refusalLine}
 
 -- ---- decimal numbers
 
@@ -66,16 +64,16 @@ pub kept-length : (old new : List ℕ) {out : List ℕ} → out ≡ over old new
 kept-length old new e h = ap length e ∙ over-length old new h
 
 -- how long the parts are, with each one that is added
-pub parts-short : (n p : ℕ) → (length (refused ++ decimal n) ≤ 28) × (length ((refused ++ decimal n) ++ place) ≤ 35) × (length (((refused ++ decimal n) ++ place) ++ decimal p) ≤ 55)
+pub parts-short : (n p : ℕ) → (length (refusedWord ++ decimal n) ≤ 28) × (length ((refusedWord ++ decimal n) ++ placeWord) ≤ 35) × (length (((refusedWord ++ decimal n) ++ placeWord) ++ decimal p) ≤ 55)
 parts-short n p =
-    let two : length (refused ++ decimal n) ≡ 8 + length (decimal n) = length-append refused (decimal n) in
-    let three : length ((refused ++ decimal n) ++ place) ≡ length (refused ++ decimal n) + 7 = length-append (refused ++ decimal n) place in
-    (omega (arith, decimal-short n), omega (arith, decimal-short n), omega (arith, decimal-short n, decimal-short p, length-append ((refused ++ decimal n) ++ place) (decimal p)))
+    let two : length (refusedWord ++ decimal n) ≡ 8 + length (decimal n) = length-append refusedWord (decimal n) in
+    let three : length ((refusedWord ++ decimal n) ++ placeWord) ≡ length (refusedWord ++ decimal n) + 7 = length-append (refusedWord ++ decimal n) placeWord in
+    (omega (arith, decimal-short n), omega (arith, decimal-short n), omega (arith, decimal-short n, decimal-short p, length-append ((refusedWord ++ decimal n) ++ placeWord) (decimal p)))
 
 -- the five parts are the line
-pub whole : (n p : ℕ) → (((refused ++ decimal n) ++ place) ++ decimal p) ++ (10 ∷ []) ≡ refusalLine n p
+pub whole : (n p : ℕ) → (((refusedWord ++ decimal n) ++ placeWord) ++ decimal p) ++ (10 ∷ []) ≡ refusalLine n p
 unfolding refusalLine
 whole n p =
-    append-assoc ((refused ++ decimal n) ++ place) (decimal p) (10 ∷ [])
-    ∙ append-assoc (refused ++ decimal n) place (decimal p ++ (10 ∷ []))
-    ∙ append-assoc refused (decimal n) (place ++ (decimal p ++ (10 ∷ [])))
+    append-assoc ((refusedWord ++ decimal n) ++ placeWord) (decimal p) (10 ∷ [])
+    ∙ append-assoc (refusedWord ++ decimal n) placeWord (decimal p ++ (10 ∷ []))
+    ∙ append-assoc refusedWord (decimal n) (placeWord ++ (decimal p ++ (10 ∷ [])))

@@ -20,16 +20,16 @@ unfoldable pub decimal : ℕ → List ℕ
 decimal n = digits 10 (decimalLength n) n
 
 -- `refused `
-abbrev pub refused : List ℕ
-refused = 114 ∷ 101 ∷ 102 ∷ 117 ∷ 115 ∷ 101 ∷ 100 ∷ 32 ∷ []
+abbrev pub refusedWord : List ℕ
+refusedWord = 114 ∷ 101 ∷ 102 ∷ 117 ∷ 115 ∷ 101 ∷ 100 ∷ 32 ∷ []
 
 -- ` place `
-abbrev pub place : List ℕ
-place = 32 ∷ 112 ∷ 108 ∷ 97 ∷ 99 ∷ 101 ∷ 32 ∷ []
+abbrev pub placeWord : List ℕ
+placeWord = 32 ∷ 112 ∷ 108 ∷ 97 ∷ 99 ∷ 101 ∷ 32 ∷ []
 
 -- the line `refused N place P`
 unfoldable pub refusalLine : ℕ → ℕ → List ℕ
-refusalLine n p = refused ++ (decimal n ++ (place ++ (decimal p ++ (10 ∷ []))))
+refusalLine n p = refusedWord ++ (decimal n ++ (placeWord ++ (decimal p ++ (10 ∷ []))))
 
 -- an answer with this number and place: its text where nothing is declined, else the line of the refusal
 abbrev pub answerText : ℕ → ℕ → List ℕ → List ℕ

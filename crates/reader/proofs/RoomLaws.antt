@@ -108,7 +108,24 @@ listing-fits s room h = go (listingOf s) refl
     go (listing.Declined (listing-fault.TooMany line)) f e = omega arith
 
 pub enough : Enough
-enough = record { of-words = words-fit; of-listing = listing-fits }
+enough =
+    record { of-words = λ words room h. words-fit words room (omega arith); of-listing = λ s room h. listing-fits s room (omega arith) }
+
+-- ---- more room changes nothing
+
+batches-same : (words : List ℕ) (room : ℕ) → length words / 17 ≤ 300 → 48000 ≤ room → readBatches words room ≡ readBatches words 48000
+unfolding readBatches
+batches-same words room few h =
+    let lines = length (linesHeard (heardIn words .pages)) in
+    rw (le-ltb room lines (omega (arith, lines-short words)), le-ltb 48000 lines (omega (arith, lines-short words)))
+
+pub listing-same : (s : List ℕ) (room : ℕ) → 48000 ≤ room → readListing s room ≡ readListing s 48000
+unfolding readListing
+listing-same s room h = go (listingOf s) refl
+  where
+    go : (l : Listing) → listingOf s ≡ l → readFrom l (wordsOf s) room ≡ readFrom l (wordsOf s) 48000
+    go (listing.WellFormed p b) f = let w = formed s p b f in batches-same (wordsOf s) room (omega (arith, w .count, w .limits .few)) h
+    go (listing.Declined why) f = refl
 
 -- ---- how many bytes are written
 

@@ -14,20 +14,12 @@ use Rattle.text.specs.declared.Digits.the-variants.{Written, NoRoom}
 abbrev pub heardDigits : Coding → List ℕ → List ℕ
 heardDigits c gs = pairsOf (heardText c gs)
 
--- into room for so many digits: all of them, or number 10 where there are fewer than ten a group
+-- into room for so many digits: all of them, or none where there is room for fewer than ten a group, which document 01's table has no
+-- number for
 abbrev pub heardInto : Coding → List ℕ → ℕ → Digits
 heardInto c gs room = cond (ltb room (10 * length gs)) NoRoom (Written (length (heardDigits c gs)))
 
--- the number of an answer in document 01's table, 0 where the digits are written
-abbrev pub numberOf : Digits → ℕ
-numberOf (Written n) = 0
-numberOf NoRoom = 10
-
--- its place
-abbrev pub placeOf : Digits → ℕ
-placeOf a = 0
-
--- how many digits are written: none where it is declined
+-- how many digits are written
 abbrev pub countOf : Digits → ℕ
 countOf (Written n) = n
 countOf NoRoom = 0

@@ -386,7 +386,7 @@ fn write_alphanumeric(groups: &[u32], digits: &mut [u8]) -> usize
 pub enum Digits {
     // How many digits are written.
     Written(usize),
-    // The lent slice has fewer than ten digits a group: number 10.
+    // The lent slice has fewer than ten digits a group: nothing is written.
     NoRoom,
 }
 

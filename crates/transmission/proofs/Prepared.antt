@@ -22,7 +22,6 @@ use Rattle.job.specs.Job.{jobOf, tableOf, answerWith, readingOf}
 use Rattle.job.specs.declared.JobAnswer.the-variants.{Accepted}
 use Rattle.job.specs.declared.Pages.{Pages}
 use Rattle.job.proofs.Accepted.{accepted-job}
-use Rattle.placement.specs.Placement as placement
 use Rattle.placement.specs.Placement.{isSendable, batches, slotOf, slots, batchesIn, slotsIn}
 use Rattle.placement.proofs.Placed.{slots-length, slots-at}
 use Rattle.placement.proofs.Sendable.{of-sendable}

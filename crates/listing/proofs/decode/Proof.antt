@@ -1,6 +1,5 @@
 -- `listing::decode` meets its contract: the words that were read, or zeros. Assumes nothing.
 use borrow.Author.Needs.{needs}
-use denote.Ref.{now}
 use Rattle.listing.proofs.Indexed.{decoded-formed, decoded-declined}
 use Rattle.listing.proofs.decode.Statement.{statement}
 use Rattle.listing.proofs.decode.Tie as tie

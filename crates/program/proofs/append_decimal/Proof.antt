@@ -1,7 +1,7 @@
 -- `program::append_decimal` meets its contract. Assumes nothing.
 use mathlib.Core.Path.{_≡_, ap, _∙_}
 use mathlib.Core.List.{List, _++_}
-use Prim.Native.Nat.{ℕ, _+_, _^_, _<_}
+use Prim.Native.Nat.{ℕ, _+_}
 use native.Mathlib.Omega.{arith}
 use lib.ListN.{length, take, drop}
 use borrow.Author.Needs.{needs}
@@ -10,10 +10,6 @@ use Rattle.program.specs.Prints.{decimal}
 use Rattle.program.proofs.RefusalLaws.{decimal-is, decimal-short}
 use Rattle.program.proofs.append_decimal.Statement.{statement}
 use Rattle.program.proofs.append_decimal.Tie as tie
-use Rattle.program.proofs.append_decimal.Reads as reads
-use Rattle.program.proofs.append_decimal.Lts as lts
-use Rattle.io.proofs.decimal.Reads as decimal-reads
-use Rattle.program.proofs.append.Reads as append-reads
 
 decimal-requires : tie.Need-decimal-requires
 decimal-requires c κs = search needs

@@ -1,0 +1,36 @@
+-- What the answers settle, case by case. Assumes nothing.
+use Prim.Native.Nat.{ℕ, _≤_}
+use mathlib.Core.Path.{_≡_, refl}
+use mathlib.Core.List.{List}
+use native.Mathlib.Omega.{arith}
+use lib.ListN.{length}
+use borrow.Author.Tests.{lt-ltb, le-ltb}
+use Rattle.job.specs.Job.{jobOf}
+use Rattle.job.specs.Refusal.{jobNumber, jobPlace, jobPages}
+use Rattle.job.specs.Settled.{LineSettled, JobSettled}
+use Rattle.job.specs.declared.JobAnswer.{JobAnswer}
+use Rattle.job.specs.declared.JobAnswer.the-variants.{Accepted, Refused}
+use Rattle.job.proofs.Accepted.{accepted-job}
+use Rattle.job.proofs.RefusalLaws.{refused-number}
+
+pub line-settled : (room : ℕ) (line : List ℕ) → LineSettled room line
+line-settled room line = record {
+  short = λ h. let e = lt-ltb room (length line) h in (rw e, rw e);
+  whole = λ h. let e = le-ltb room (length line) h in (rw e, rw e);
+  unplaced = refl;
+}
+
+few-by : (s : List ℕ) (a : JobAnswer) → jobOf s ≡ a → jobPages a ≤ 48
+few-by s (Accepted n) e = accepted-job s n e .most
+few-by s (Refused why place) e = omega arith
+
+none-by : (a : JobAnswer) → (jobNumber a ≡ 0 → ⊥) → jobPages a ≡ 0
+none-by (Accepted n) h = absurd (h refl)
+none-by (Refused why place) h = refl
+
+unplaced-by : (a : JobAnswer) → jobNumber a ≡ 0 → jobPlace a ≡ 0
+unplaced-by (Accepted n) h = refl
+unplaced-by (Refused why place) h = absurd (omega (arith, refused-number why .0))
+
+pub job-settled : (s : List ℕ) → JobSettled s
+job-settled s = record { few = few-by s (jobOf s) refl; none = none-by (jobOf s); unplaced = unplaced-by (jobOf s) }
