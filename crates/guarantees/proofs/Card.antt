@@ -81,9 +81,17 @@ told [] (suc n) zero = refl
 told [] (suc n) (suc m) = ap (λ (l : List CardStep). doneTold ∷ l) (told [] n m)
 told (w ∷ words) (suc n) m = ap (λ (l : List CardStep). wordTold w ∷ l) (told words n m)
 
+some-list : (s : Sender) (n : ℕ) → (given : List CardStep) × (t : Sender) × (Calls CardStepCall s given t) × (length given ≡ n)
+some-list s zero = ([], s, none s, refl)
+some-list s (suc n) =
+    let r = some-list (stepOf s .state) n in
+    let a = stepFor (stepOf s .answer) in
+    (a ∷ r .0, r .1, more s (stepOf s .state) (r .1) a (r .0) (record { answer = refl; state = refl }) (r .2), ap suc (r .3))
+
 card-stepping : (words : List ℕ) (s : Sender) → Stepping words s → CardStepping words s
 card-stepping words s h =
     record {
+      every-length = some-list s;
       words-then-done = λ given t calls.
           let r = as-steps s given t calls in
           let n : length (r .0) ≡ length given = sym (ap length (r .2) ∙ length-map (r .0) stepFor) in

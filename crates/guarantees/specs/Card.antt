@@ -48,6 +48,8 @@ doneTold = record { word = 0; done = 1; number = 0 }
 
 -- of every list of steps from the state s on, where these are the card's words
 pub record CardStepping (words : List ℕ) (s : Sender) : Type 0 where
+  -- there are such lists of every length
+  pub every-length : (n : ℕ) → (given : List CardStep) × (t : Sender) × (Calls CardStepCall s given t) × (length given ≡ n)
   -- the answers are the words from the first on, and then done for ever; so none is declined
   pub words-then-done : (given : List CardStep) (t : Sender) → Calls CardStepCall s given t
       → given ≡ take (length given) (map wordTold words ++ replicate (length given) doneTold)
