@@ -57,8 +57,8 @@ extern "C" {
 #define CARD_REFUSED_SPACE_AT_END 7         /* line: a numeric text ends in a space */
 #define CARD_REFUSED_TOO_MANY_PAGES 8       /* 49: a 49th line */
 #define CARD_REFUSED_EMPTY_JOB 9            /* 0: no bytes */
-#define CARD_REFUSED_BUFFER_TOO_SHORT 10    /* 0: a lent buffer is shorter than the answer */
-#define CARD_REFUSED_STATE 11               /* 0: a sender's state as is said there; card_step alone */
+#define CARD_REFUSED_BUFFER_TOO_SHORT 10    /* 0: the answer does not fit into a lent buffer */
+#define CARD_REFUSED_STATE 11               /* 0: a sender's state out of bounds, as struct card_sender has them; card_step alone */
 #define CARD_REFUSED_WORD 20                /* 0: no codeword is within two bits; card_correct and card_correct_slowly alone */
 #define CARD_REFUSED_BATCHES_FORM 21        /* line: a listing is not written as one, or ends early (the line after the last);
                                              * 0: words that are none, or no multiple of 17 */
