@@ -1,4 +1,4 @@
--- A job is accepted exactly when no number but 10 declines its sending. Assumes nothing.
+-- An accepted job is one that number 10 alone may keep from being sent. Assumes nothing.
 use mathlib.Core.Path.{_≡_, refl}
 use mathlib.Core.Bool.{Bool, true, false, cond, _||_}
 use mathlib.Core.List.{List}

@@ -1,5 +1,5 @@
--- Demand 2: a job sent and then read, with up to two bits flipped in each sync and frame codeword, gives the same pages in the order
--- of their slots. `demand2` and `sent-then-read` in proofs/Demand2.antt prove it.
+-- Demand 2: what is read of a job's transmission, with at most two flips in each sync and each frame codeword, is the job's own pages,
+-- ordered by slot. `demand2` and `sent-then-read` in proofs/Demand2.antt prove it.
 use mathlib.Core.Path.{_≡_}
 use mathlib.Core.List.{List, [], _∷_, _++_, flatMap}
 use Prim.Native.Nat.{ℕ, _<_}
@@ -51,7 +51,7 @@ pub record SamePages (s : List ℕ) (n : ℕ) (words : List ℕ) : Type 0 where
   -- all the words, read as a listing
   pub from-listing : (room : ℕ) → GivesBack s n words room (readListing (textOf words) room) (wordsOf (textOf words))
 
--- every accepted job, and all words that are received for its transmission with up to two bits flipped in each sync and frame codeword
+-- every accepted job, and all words that are received for its transmission with at most two flips in each sync and each frame codeword
 abbrev pub Demand2 : Type 0
 Demand2 =
     (s : List ℕ) (n : ℕ) → jobOf s ≡ Accepted n → (words : List ℕ) → Received 2 (transmissionOf (sendingsOf s)) words → SamePages s n words
@@ -67,7 +67,7 @@ pub record ReadAfterSending (s old : List ℕ) (slots m : ℕ) : Type 0 where
   pub accepted : jobOf s ≡ Accepted pages
   -- they are its transmission
   pub transmitted : wordsLeft s old slots m ≡ transmissionOf (sendingsOf s)
-  -- as they are, and with up to two bits flipped in each sync and frame codeword, they give the same pages
+  -- as they are, and with at most two flips in each sync and each frame codeword, they give the same pages
   pub clean : SamePages s pages (wordsLeft s old slots m)
   pub flipped : (words : List ℕ) → Received 2 (wordsLeft s old slots m) words → SamePages s pages words
 

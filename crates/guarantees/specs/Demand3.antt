@@ -32,7 +32,7 @@ abbrev pub OnlyRoom : Report → Type 0
 OnlyRoom r = (numberOf r ≡ 0) ⊎ (numberOf r ≡ 10)
 
 pub record Acceptance (s : List ℕ) : Type 0 where
-  -- a job is accepted exactly when no number but 10 declines its sending, whatever is lent
+  -- an accepted job is one that number 10 alone may keep from being sent, whatever is lent
   pub accepted : (words slots : ℕ) → OnlyRoom (reportOf s words slots) → (n : ℕ) × (jobOf s ≡ Accepted n)
   pub undeclined : (n : ℕ) → jobOf s ≡ Accepted n → (words slots : ℕ) → OnlyRoom (reportOf s words slots)
   -- where 10 doesn't either, sending reports
@@ -103,7 +103,7 @@ pub record InWords (s : List ℕ) (n b m : ℕ) (w t : List ℕ) : Type 0 where
   -- the slots whose word is an address are the reported ones
   pub reported : (p : ℕ) → p < 16 * b → isAddress (wordIn w p) ≡ true → (i : ℕ) × (i < n) × (p ≡ slot t i)
   pub addressed : (i : ℕ) → i < n → isAddress (wordIn w (slot t i)) ≡ true
-  -- the page that goes out k-th has the k-th address in slot order: the slots before its own hold k - 1
+  -- k-th in slot order is the address of the page that goes out k-th: before its slot stand k - 1
   pub in-turn : (k i : ℕ) → i < n → GoesOut (slot t) n k i → addressesTo (wordIn w) (slot t i) + 1 ≡ k
   -- in a page's slot stands the codeword of its identity and function
   pub its-address : (i : ℕ) → i < n → wordIn w (slot t i) ≡ addressOf (page s i)

@@ -50,7 +50,7 @@ pub record ReadAfterListing (s : List ℕ) (n : ℕ) (left : List ℕ) : Type 0 
   pub listed : take n left ≡ listingText s
   -- read as a listing they give the same pages
   pub clean : ListsPages s pages (take n left)
-  -- and so does the listing of all words received for the listed ones with up to two bits flipped in each sync and frame codeword
+  -- and so does the listing of all words received for the listed ones with at most two flips in each sync and each frame codeword
   pub flipped : (words : List ℕ) → Received 2 (transmissionOf (sendingsOf s)) words → SamePages s pages words
 
 -- every call that doesn't decline, whatever the job and the lent slice are

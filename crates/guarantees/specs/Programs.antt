@@ -31,14 +31,14 @@ pub record ProgramCall (prints : List ℕ → List ℕ) (s old : List ℕ) (n : 
 abbrev pub output : ℕ → List ℕ → List ℕ
 output n left = take n left
 
--- Demand 2 of the programs: an accepted job of at most 65,536 bytes
+-- Demand 2 of the programs, of an accepted job of at most 65,536 bytes; none has more, since 48 lines have at most 23,520
 pub record Programs (s : List ℕ) : Type 0 where
   -- the sending program prints its listing
   pub sent : (old left : List ℕ) (n : ℕ) → ProgramCall sendPrints s old n left → output n left ≡ listingText s
   -- what it prints, read by a reading program, gives the job's own page lines in the order of their slots
   pub read-back : (old left old' left' : List ℕ) (n n' : ℕ) → ProgramCall sendPrints s old n left → ProgramCall readPrints (output n left) old' n' left'
       → output n' left' ≡ linesInOrder s
-  -- and so does the listing of all words received for the listed ones with up to two bits flipped in each sync and frame codeword
+  -- and so does the listing of all words received for the listed ones with at most two flips in each sync and each frame codeword
   pub flipped : (words old left : List ℕ) (n : ℕ) → Received 2 (transmissionOf (sendingsOf s)) words → ProgramCall readPrints (textOf words) old n left
       → output n left ≡ linesInOrder s
 

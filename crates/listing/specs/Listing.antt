@@ -40,7 +40,7 @@ skip zero ls = ls
 skip (suc n) (behind t) = behind t
 skip (suc n) (line l ls) = skip n ls
 
--- line q, from 0, of the batches: each batch is a line with the sync word alone, then eight frame lines
+-- line q, from 0, of the batches: nine a batch, the sync word by itself on the first, a frame on each other
 unfoldable pub isDue : ℕ → List ℕ → Bool
 isDue q l = cond (eqb (q % 9) 0) (hasOne l) (hasTwo l)
 

@@ -9,7 +9,7 @@ use Rattle.text.specs.declared.Coding.the-variants.{Numeric, Alphanumeric}
 use Rattle.job.specs.Print.{printed}
 use Rattle.reader.specs.Reading.{Hearing}
 
--- a page with no message word has the kind of its function; else function 0 is kind 4, 3 is 5, and 1 and 2 are 6 and 7
+-- without a message word the kind is the function; else function 0 is kind 4, 3 is 5, and 1 and 2 are 6 and 7
 abbrev pub kindHeard : ℕ → List ℕ → ℕ
 kindHeard f [] = f
 kindHeard f (g ∷ gs) = cond (eqb f 0) 4 (cond (eqb f 3) 5 (f + 5))

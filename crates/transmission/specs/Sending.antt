@@ -36,7 +36,7 @@ noSending = record { identity = 0; function = 0; groups = [] }
 abbrev pub sendingAt : List Sending → ℕ → Sending
 sendingAt xs i = getD xs i noSending
 
--- what the placement needs of them: the identity's low three bits are its frame, and each group is one message codeword
+-- what the placement needs of them: a frame, the remainder of the identity by 8, and a message codeword for each group
 abbrev pub framesOf : List Sending → List ℕ
 framesOf xs = map (λ (x : Sending). x .identity % 8) xs
 

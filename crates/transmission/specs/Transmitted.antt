@@ -32,12 +32,12 @@ pub record Coded (job : Job) (c : Codewords) : Type 0 where
   pub set : (i j : ℕ) → i < job .pages → j < job .words i → 2 ^ 31 ≤ c .message i j
 
 pub record Transmitted (job : Job) (c : Codewords) : Type 0 where
-  -- a slot's word is an address exactly when the slot is reported, and it is the address of the page reported there
+  -- the slots whose word is an address are the reported ones, and in each stands its page's address
   pub reported : (s : ℕ) → isAddress (slotWord c job s) ≡ true → (i : ℕ) × (i < job .pages) × (s ≡ slotOf job i)
   pub itsAddress : (i : ℕ) → i < job .pages → (slotWord c job (slotOf job i) ≡ c .address i) × (isAddress (slotWord c job (slotOf job i)) ≡ true)
   -- before it stand as many addresses as pages go out before this one
   pub inTurn : (i : ℕ) → i < job .pages → addressesTo (slotWord c job) (slotOf job i) ≡ earlier (slotOf job) (job .pages) (λ _. 1) i
-  -- with that page's message codewords in the slots directly behind
+  -- directly behind it stand the page's message codewords
   pub itsMessage : (i j : ℕ) → i < job .pages → j < job .words i → slotWord c job (slotOf job i + 1 + j) ≡ c .message i j
   -- and every slot that is neither is idle
   pub others : (s : ℕ) → ((i j : ℕ) → i < job .pages → j ≤ job .words i → s ≡ slotOf job i + j → ⊥) → slotWord c job s ≡ code.idle
