@@ -2,6 +2,7 @@
  *
  *     gcc -Wall -Wextra tests/c/layout.c -Iinclude target/staticlib/libcard.a -o target/layout && target/layout
  * It prints each difference, and ends with status 0 where there is none. */
+#include "engines.h"
 #include "spuggenor.h"
 #include <stdio.h>
 #include <string.h>
@@ -78,17 +79,6 @@ static void pause_slot(void) {
         EXPECT(a.word == (length ? 0x000026EC : 0x7A89C197) && state.sent[0] != 0);
     }
 }
-
-/* the calls that correct words, by the fast engine and by the slow one */
-struct engine {
-    struct card_word (*correct)(uint32_t);
-    struct card_reading (*read_words)(const uint32_t *, size_t, uint8_t *, size_t);
-    struct card_reading (*read_listing)(const uint8_t *, size_t, uint8_t *, size_t);
-};
-static const struct engine engines[] = {
-    {card_correct, card_read_words, card_read_listing},
-    {card_correct_slowly, card_read_words_slowly, card_read_listing_slowly},
-};
 
 /* every field of the other answers */
 static void single_words(const struct engine *by) {

@@ -6,6 +6,7 @@
  *
  * Jobs reach CARD_PAGES and CARD_MESSAGE_WORDS, listings reach CARD_LISTING_BYTES and CARD_LINES_BYTES. No job that we know reaches
  * CARD_WORDS, and so CARD_LISTING_BYTES on sending: they are for 300 batches, and the longest transmission here has 289. */
+#include "engines.h"
 #include "spuggenor.h"
 #include <stdio.h>
 #include <string.h>
@@ -18,16 +19,6 @@ static int wrong;
 static uint8_t job[(CARD_PAGES + 1) * 490], listing[CARD_LISTING_BYTES + 1], lines[CARD_LINES_BYTES + 1];
 static uint32_t words[CARD_WORDS + 1], again[CARD_WORDS + 1], slots[CARD_PAGES + 1];
 static struct card_sender state, kept;
-
-struct engine {
-    struct card_word (*correct)(uint32_t);
-    struct card_reading (*read_words)(const uint32_t *, size_t, uint8_t *, size_t);
-    struct card_reading (*read_listing)(const uint8_t *, size_t, uint8_t *, size_t);
-};
-static const struct engine engines[] = {
-    {card_correct, card_read_words, card_read_listing},
-    {card_correct_slowly, card_read_words_slowly, card_read_listing_slowly},
-};
 
 static size_t put(uint8_t *to, size_t at, const char *text) {
     size_t length = strlen(text);
