@@ -12,6 +12,7 @@ use Rattle.job.specs.Job.{jobOf}
 use Rattle.job.specs.Refusal.{jobNumber, jobPlace}
 use Rattle.job.specs.declared.JobAnswer.{JobAnswer}
 use Rattle.job.specs.declared.JobAnswer.the-variants.{Accepted, Refused}
+use Rattle.job.proofs.Accepted.{accepted-short}
 use Rattle.job.proofs.RefusalLaws.{refused-number}
 use Rattle.transmission.specs.Sending.{sendingsOf}
 use Rattle.transmission.specs.Transmission.{transmissionOf}
@@ -43,8 +44,8 @@ send-is : (s : List ℕ) → sendPrints s ≡ unlessLong s (answerText (jobNumbe
 unfolding sendPrints
 send-is s = let e = listing.enough s 46062 (omega arith) in rw (e .0, e .1)
 
-send-listing : (s : List ℕ) (n : ℕ) → jobOf s ≡ Accepted n → length s ≤ 65536 → sendPrints s ≡ listingText s
-send-listing s n ok h = send-is s ∙ rw (le-ltb 65536 (length s) h, ok)
+send-listing : (s : List ℕ) (n : ℕ) → jobOf s ≡ Accepted n → sendPrints s ≡ listingText s
+send-listing s n ok = send-is s ∙ rw (le-ltb 65536 (length s) (omega (arith, accepted-short s n ok)), ok)
 
 -- a listing that gives these lines is printed so
 read-lines : (s lines : List ℕ) (pages : ℕ) (changed : Changes) → length s ≤ 65536 → Gives lines pages 0 0 changed 48000 (readListing s 48000) (wordsOf s) → readPrints s ≡ lines
@@ -61,8 +62,8 @@ received-short s n ok words r =
     omega (arith, text-length 0 words, text-length 0 (transmissionOf (sendingsOf s)), listing.listing-short s n ok, r .whole)
 
 pub programs : OneIntoTheOther
-programs s n ok h =
-    let sent = send-listing s n ok h in
+programs s n ok =
+    let sent = send-listing s n ok in
     record {
       sent = λ old left m call. printed sendPrints call ∙ sent;
       read-back = λ old left old' left' m m' call read.

@@ -31,7 +31,7 @@ pub record ProgramCall (prints : List ℕ → List ℕ) (s old : List ℕ) (n : 
 abbrev pub output : ℕ → List ℕ → List ℕ
 output n left = take n left
 
--- Demand 2 of the programs, of an accepted job of at most 65,536 bytes; none has more, since 48 lines have at most 23,520
+-- Demand 2 of the programs, of an accepted job
 pub record Programs (s : List ℕ) : Type 0 where
   -- the sending program prints its listing
   pub sent : (old left : List ℕ) (n : ℕ) → ProgramCall sendPrints s old n left → output n left ≡ listingText s
@@ -43,7 +43,7 @@ pub record Programs (s : List ℕ) : Type 0 where
       → output n left ≡ linesInOrder s
 
 abbrev pub OneIntoTheOther : Type 0
-OneIntoTheOther = (s : List ℕ) (n : ℕ) → jobOf s ≡ Accepted n → length s ≤ 65536 → Programs s
+OneIntoTheOther = (s : List ℕ) (n : ℕ) → jobOf s ≡ Accepted n → Programs s
 
 -- the sizes that suffice for every job and every listing, in the library, for C and in the programs: no number 10
 pub record Sizes : Type 0 where

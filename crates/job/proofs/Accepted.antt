@@ -11,13 +11,13 @@ use lib.Seq.{drop-drop}
 use lib.Dec.{leb, eqb}
 use borrow.Author.Tests.{leb-false, eqb-true, eqb-false}
 use Rattle.base.specs.Hex.{bytesOf}
-use Rattle.base.specs.Lines.{Lines, behind, line, split, lineAt, lineEnd}
+use Rattle.base.specs.Lines.{Lines, behind, line, onto, split, lineAt, lineEnd}
 use Rattle.base.specs.Lists.{padded}
 use Rattle.base.proofs.Bools.{and-true, or-true}
 use Rattle.base.proofs.HexLaws.{bytes-length}
 use Rattle.base.proofs.LinesLaws.{end-after, end-inside, cut}
 use Rattle.base.proofs.ListLaws.{drop-take}
-use Rattle.job.specs.Line.{allHex, isPairs, headFormed, tailFormed, wellFormed, lineOf, textPairs, textOf}
+use Rattle.job.specs.Line.{allHex, isPairs, headFormed, tailFormed, wellFormed, longestOf, kindOf, lineOf, textPairs, textOf}
 use Rattle.job.specs.Pages.{Page, pageFrom, pagesFrom, pagesOf, noPage, pageAt}
 use Rattle.job.specs.Job.{after, judge, jobOf, tableOf, answerWith, readingOf}
 use Rattle.job.specs.Accepted.{Sound, PageRead, AcceptedJob}
@@ -36,13 +36,64 @@ not-refused : (b : Bool) (w : Refusal) (p : ℕ) (x : JobAnswer) {n : ℕ} → c
 not-refused true w p x e = let z : _≡_ {A = ℕ} 0 1 = cc in absurd (omega arith)
 not-refused false w p x e = (refl, e)
 
-end-accepted : (b : Bool) (k : ℕ) (x : JobAnswer) {n : ℕ} → ((m : ℕ) → x ≡ Accepted m → ⊥) → cond b (Accepted k) x ≡ Accepted n → k ≡ n
-end-accepted true k x f e = cc
+end-accepted : (b : Bool) (k : ℕ) (x : JobAnswer) {n : ℕ} → ((m : ℕ) → x ≡ Accepted m → ⊥) → cond b (Accepted k) x ≡ Accepted n → (k ≡ n) × (b ≡ true)
+end-accepted true k x f e = (cc, refl)
 end-accepted false k x {n} f e = absurd (f n e)
 
 after-good : (x : LineAnswer) (p : ℕ) (r : JobAnswer) {n : ℕ} → after x p r ≡ Accepted n → (r ≡ Accepted n) × ((l : List ℕ) → lineOf l ≡ x → Sound l)
 after-good (Good i k c) p r e = (e, λ l q. sound l q)
 after-good (Faulty w) p r e = let z : _≡_ {A = ℕ} 0 1 = cc in absurd (omega arith)
+
+-- ---- how long a line and a job are
+
+-- what stands behind a well-formed line's ninth byte are pairs
+even : (t : List ℕ) → tailFormed t ≡ true → length (drop 1 t) % 2 ≡ 0
+unfolding tailFormed isPairs
+even t e =
+    ⊎-elim
+    (λ z. omega (arith, length-drop 1 t, eqb-true (length t) 0 z))
+    (λ z. let h = and-true (eqb (getD t 0 0) 32) (isPairs (drop 1 t)) z in
+    let i = and-true (not (eqb (length (drop 1 t)) 0)) (eqb (length (drop 1 t) % 2) 0 && allHex (drop 1 t)) (h .1) in
+    eqb-true (length (drop 1 t) % 2) 0 (and-true (eqb (length (drop 1 t) % 2) 0) (allHex (drop 1 t)) (i .1) .0))
+    (or-true (eqb (length t) 0) (eqb (getD t 0 0) 32 && isPairs (drop 1 t)) e)
+
+text-length : (l : List ℕ) → wellFormed l ≡ true → 2 * length (textOf l) ≡ length l - 9
+unfolding wellFormed
+text-length l e =
+    let h = even (drop 8 l) (and-true (headFormed l) (tailFormed (drop 8 l)) e .1) in
+    omega (arith, bytes-length (textPairs l), length-drop 9 l, length-drop 1 (drop 8 l), length-drop 8 l)
+
+longest-few : (kind : ℕ) → longestOf kind ≤ 240
+unfolding longestOf
+longest-few kind = go (leb kind 3) (eqb kind 4)
+  where
+    go : (x y : Bool) → cond x 0 (cond y 60 240) ≤ 240
+    go true y = omega arith
+    go false true = omega arith
+    go false false = omega arith
+
+-- a head of eight bytes, a space and 240 pairs
+line-short : (l : List ℕ) → Sound l → length l ≤ 489
+line-short l s = omega (arith, text-length l (s .formed), s .most, longest-few (kindOf l))
+
+-- the bytes of lines, their newlines among them
+unfoldable bytesIn : Lines → ℕ
+bytesIn (behind t) = length t
+bytesIn (line l ls) = length l + 1 + bytesIn ls
+
+onto-bytes : (b : ℕ) (ls : Lines) → bytesIn (onto b ls) ≡ suc (bytesIn ls)
+unfolding bytesIn
+onto-bytes b (behind t) = refl
+onto-bytes b (line l ls) = omega arith
+
+split-bytes : (s : List ℕ) → bytesIn (split s) ≡ length s
+unfolding bytesIn split
+split-bytes [] = refl
+split-bytes (b ∷ s) = go (eqb b 10) (split-bytes s)
+  where
+    go : (x : Bool) → bytesIn (split s) ≡ length s → bytesIn (cond x (line [] (split s)) (onto b (split s))) ≡ suc (length s)
+    go true e = omega arith
+    go false e = onto-bytes b (split s) ∙ ap suc e
 
 -- ---- the lines
 
@@ -51,6 +102,7 @@ record Judged (at k n : ℕ) (ls : Lines) : Type 0 where
   count : k + length (pagesFrom at ls) ≡ n
   few : n ≤ 48
   each : (p : ℕ) → k + p < n → Sound (lineAt p ls)
+  short : 490 * k + bytesIn ls ≤ 490 * n
 
 each-more : (l : List ℕ) (ls : Lines) (k n : ℕ) → Sound l → ((p : ℕ) → k + 1 + p < n → Sound (lineAt p ls)) → (p : ℕ) → k + p < n → Sound (lineAt p (line l ls))
 unfolding lineAt
@@ -58,17 +110,17 @@ each-more l ls k n s f zero h = s
 each-more l ls k n s f (suc p) h = f p (omega arith)
 
 judged : (ls : Lines) (at k n : ℕ) → k ≤ 48 → judge k ls ≡ Accepted n → Judged at k n ls
-unfolding judge pagesFrom
+unfolding judge pagesFrom bytesIn
 judged (behind p) at k n h e =
     let q = end-accepted (eqb (length p) 0) k (cond (leb 48 k) (Refused TooManyLines 49) (Refused Malformed (k + 1)))
     (λ m f. let x = not-refused (leb 48 k) TooManyLines 49 (Refused Malformed (k + 1)) f in
     let z : _≡_ {A = ℕ} 0 1 = cc in omega arith) e in
-    record { count = omega arith; few = omega arith; each = λ i l. absurd (omega arith) }
+    record { count = omega (arith, q .0); few = omega (arith, q .0); each = λ i l. absurd (omega (arith, q .0)); short = omega (arith, q .0, eqb-true (length p) 0 (q .1)) }
 judged (line l ls) at k n h e =
     let x = not-refused (leb 48 k) TooManyLines 49 (after (lineOf l) (k + 1) (judge (k + 1) ls)) e in
     let a = after-good (lineOf l) (k + 1) (judge (k + 1) ls) (x .1) in
     let r = judged ls (at + length l + 1) (k + 1) n (omega (arith, leb-false 48 k (x .0))) (a .0) in
-    record { count = omega (arith, r .count); few = r .few; each = each-more l ls k n (a .1 l refl) (r .each) }
+    record { count = omega (arith, r .count); few = r .few; each = each-more l ls k n (a .1 l refl) (r .each); short = omega (arith, r .short, line-short l (a .1 l refl)) }
 
 -- ---- where a page's line stands in the job
 
@@ -98,23 +150,6 @@ stands s (suc p) at h i =
     rw (pages-next s at c, cut s at c) (stands s p (lineEnd s at + 1) (omega arith) (omega (arith, ap length (pages-next s at c))))
 
 -- ---- a page's text
-
--- what stands behind a well-formed line's ninth byte are pairs
-even : (t : List ℕ) → tailFormed t ≡ true → length (drop 1 t) % 2 ≡ 0
-unfolding tailFormed isPairs
-even t e =
-    ⊎-elim
-    (λ z. omega (arith, length-drop 1 t, eqb-true (length t) 0 z))
-    (λ z. let h = and-true (eqb (getD t 0 0) 32) (isPairs (drop 1 t)) z in
-    let i = and-true (not (eqb (length (drop 1 t)) 0)) (eqb (length (drop 1 t) % 2) 0 && allHex (drop 1 t)) (h .1) in
-    eqb-true (length (drop 1 t) % 2) 0 (and-true (eqb (length (drop 1 t) % 2) 0) (allHex (drop 1 t)) (i .1) .0))
-    (or-true (eqb (length t) 0) (eqb (getD t 0 0) 32 && isPairs (drop 1 t)) e)
-
-text-length : (l : List ℕ) → wellFormed l ≡ true → 2 * length (textOf l) ≡ length l - 9
-unfolding wellFormed
-text-length l e =
-    let h = even (drop 8 l) (and-true (headFormed l) (tailFormed (drop 8 l)) e .1) in
-    omega (arith, bytes-length (textPairs l), length-drop 9 l, length-drop 1 (drop 8 l), length-drop 8 l)
 
 module _ (s : List ℕ) (l : List ℕ) (b : ℕ) (formed : wellFormed l ≡ true) (inside : b + length l < length s) (there : take (length l) (drop b s) ≡ l) where
   text-inside : b + 9 + 2 * length (textOf l) ≤ length s
@@ -177,6 +212,10 @@ module _ (s : List ℕ) (n : ℕ) (ok : jobOf s ≡ Accepted n) where
         kept-start = rw ok (kept-at (λ x. x .start) p h);
         kept-count = rw ok (kept-at (λ x. length (x .text)) p h);
       }
+
+  -- 48 lines of 490 bytes
+  pub accepted-short : length s ≤ 23520
+  accepted-short = omega (arith, all .short, all .few, split-bytes s)
 
   pub accepted-job : AcceptedJob s n
   accepted-job = record { least = least; most = all .few; pages = counted; sound = sounds; page = page }

@@ -10,7 +10,7 @@ use Rattle.job.specs.Refusal.{jobNumber, jobPlace, jobPages}
 use Rattle.job.specs.Settled.{LineSettled, JobSettled}
 use Rattle.job.specs.declared.JobAnswer.{JobAnswer}
 use Rattle.job.specs.declared.JobAnswer.the-variants.{Accepted, Refused}
-use Rattle.job.proofs.Accepted.{accepted-job}
+use Rattle.job.proofs.Accepted.{accepted-short, accepted-job}
 use Rattle.job.proofs.RefusalLaws.{refused-number}
 
 pub line-settled : (room : ℕ) (line : List ℕ) → LineSettled room line
@@ -24,6 +24,10 @@ few-by : (s : List ℕ) (a : JobAnswer) → jobOf s ≡ a → jobPages a ≤ 48
 few-by s (Accepted n) e = accepted-job s n e .most
 few-by s (Refused why place) e = omega arith
 
+short-by : (s : List ℕ) (a : JobAnswer) → jobOf s ≡ a → jobNumber a ≡ 0 → length s ≤ 23520
+short-by s (Accepted n) e z = accepted-short s n e
+short-by s (Refused why place) e z = absurd (omega (arith, refused-number why .0))
+
 none-by : (a : JobAnswer) → (jobNumber a ≡ 0 → ⊥) → jobPages a ≡ 0
 none-by (Accepted n) h = absurd (h refl)
 none-by (Refused why place) h = refl
@@ -33,4 +37,4 @@ unplaced-by (Accepted n) h = refl
 unplaced-by (Refused why place) h = absurd (omega (arith, refused-number why .0))
 
 pub job-settled : (s : List ℕ) → JobSettled s
-job-settled s = record { few = few-by s (jobOf s) refl; none = none-by (jobOf s); unplaced = unplaced-by (jobOf s) }
+job-settled s = record { short = short-by s (jobOf s) refl; few = few-by s (jobOf s) refl; none = none-by (jobOf s); unplaced = unplaced-by (jobOf s) }

@@ -13,8 +13,9 @@ pub record LineSettled (room : ℕ) (line : List ℕ) : Type 0 where
   pub whole : length line ≤ room → (numberOf (printingOf room line) ≡ 0) × (bytesPrinted (printingOf room line) ≡ length line)
   pub unplaced : placeOf (printingOf room line) ≡ 0
 
--- a job has at most 48 pages, and none where it is refused; an accepted one has no place
+-- a job has at most 48 pages, and none where it is refused; an accepted one has no place, and at most 48 lines of 490 bytes
 pub record JobSettled (s : List ℕ) : Type 0 where
+  pub short : jobNumber (jobOf s) ≡ 0 → length s ≤ 23520
   pub few : jobPages (jobOf s) ≤ 48
   pub none : (jobNumber (jobOf s) ≡ 0 → ⊥) → jobPages (jobOf s) ≡ 0
   pub unplaced : jobNumber (jobOf s) ≡ 0 → jobPlace (jobOf s) ≡ 0
