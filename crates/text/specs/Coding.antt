@@ -1,11 +1,10 @@
 -- Texts as bits (document 01, "Texts"): which characters a coding has, and the 20 bits of each group.
 use Prim.Native.Nat.{ℕ, zero, suc, _+_, _-_, _*_, _/_, _%_, _^_}
-use mathlib.Core.List.{List}
-use mathlib.Core.Bool.{Bool, true, false, not, _&&_}
+use mathlib.Core.List.{List, [], _∷_}
+use mathlib.Core.Bool.{Bool, true, false, cond, not, _&&_}
 use lib.Dec.{eqb}
 use lib.ListN.{length, getD}
-use Rattle.base.specs.Hex.{between, isHex, bytesOf}
-use Rattle.base.specs.Leading.{leading}
+use Rattle.base.specs.Hex.{between, isHex, hexOf}
 use Rattle.base.specs.Lists.{tab}
 use Rattle.text.specs.Numeric.{numericOf}
 use Rattle.text.specs.declared.NumericValue.{NumericValue}
@@ -32,9 +31,11 @@ abbrev pub charOk : Coding → ℕ → Bool
 charOk Numeric b = isNumeric b
 charOk Alphanumeric b = between 1 127 b && not (between 3 4 b)
 
--- one or more pairs of digits that all write characters: nothing but digits, two for each character at the front
-unfoldable pub isText : Coding → List ℕ → Bool
-isText c t = not (eqb (length t) 0) && (eqb (leading isHex t) (length t) && eqb (2 * leading (charOk c) (bytesOf t)) (length t))
+-- how many characters a text begins with, each written as a pair of digits
+unfoldable pub charRun : Coding → List ℕ → ℕ
+charRun c [] = 0
+charRun c (h ∷ []) = 0
+charRun c (h ∷ l ∷ s) = cond (isHex h && (isHex l && charOk c (hexOf h * 16 + hexOf l))) (suc (charRun c s)) 0
 
 -- whether a numeric text ends in a space, which reading would drop (number 7); an alphanumeric one may
 unfoldable pub endsInSpace : Coding → List ℕ → Bool

@@ -6,7 +6,7 @@ ghost use lib.ListN.{length, getD, take};
 ghost use Rattle.base.specs.Hex.{hexOf, digitOf, bytesOf};
 ghost use Rattle.base.specs.Lists.{over, tab};
 ghost use Rattle.text.specs.Numeric.{numericOf, numericByte};
-ghost use Rattle.text.specs.Coding.{isNumeric, charOk, isText, endsInSpace, widthOf, fillOf, valueOf, turnedOf, groupOf, groupsOf};
+ghost use Rattle.text.specs.Coding.{isNumeric, charOk, charRun, endsInSpace, widthOf, fillOf, valueOf, turnedOf, groupOf, groupsOf};
 ghost use Rattle.text.specs.Packing.{Few, Refilled};
 ghost use Rattle.text.specs.Heard.{charHeard, ends, heardText};
 ghost use Rattle.text.specs.Answer.{heardDigits, heardInto, countOf};
@@ -80,27 +80,24 @@ fn is_char(c: Coding, b: u8) -> bool
     }
 }
 
-// Whether a text is one or more pairs of digits that all write characters of the coding, in one pass. Both digits of a pair have one
-// test: two would compile to jumps by the digits, which no processor foresees.
-pub fn is_text(c: Coding, text: &[u8]) -> bool
-    ensures { λ r. ⌜ r ≡ isText c (now (text .entry)) ⌝ }
+// How many characters of the coding a text begins with, each written as a pair of digits. Both digits of a pair have one test: two
+// would compile to jumps by the digits, which no processor foresees.
+pub fn char_run(c: Coding, text: &[u8]) -> usize
+    ensures { λ r. ⌜ r ≡ charRun c (now (text .entry)) ⌝ }
 {
-    if text.len() == 0 {
-        return false;
-    }
     let mut k = 0;
     while k < text.len() / 2 {
         let high = base::digit_value(text[2 * k]);
         let low = base::digit_value(text[2 * k + 1]);
         if 16 <= high | low {
-            return false;
+            return k;
         }
         if !is_char(c, high * 16 + low) {
-            return false;
+            return k;
         }
         k += 1;
     }
-    2 * k == text.len()
+    k
 }
 
 // Whether a numeric text ends in a space.
