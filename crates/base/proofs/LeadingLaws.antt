@@ -29,6 +29,13 @@ pub leading-le : (p : ℕ → Bool) (s : List ℕ) → leading p s ≤ length s
 leading-le p [] = omega arith
 leading-le p (b ∷ s) = ⊎-elim (λ e. rw e (let h = leading-le p s in omega arith)) (λ e. rw e (omega arith)) (either (p b))
 
+-- behind some that pass
+pub leading-behind : (p : ℕ → Bool) (s : List ℕ) (k : ℕ) → k ≤ leading p s → leading p s ≡ k + leading p (drop k s)
+leading-behind p s zero h = omega arith
+leading-behind p [] (suc k) h = absurd (omega arith)
+leading-behind p (b ∷ s) (suc k) h =
+    ⊎-elim (λ (e : p b ≡ true). let g = rw e at h in rw e (omega (arith, leading-behind p s k (omega arith)))) (λ (e : p b ≡ false). let g = rw e at h in absurd (omega arith)) (either (p b))
+
 -- where all pass, the first does, and all others
 pub leading-cons : (p : ℕ → Bool) (b : ℕ) (s : List ℕ) → length (b ∷ s) ≤ leading p (b ∷ s) → (p b ≡ true) × (length s ≤ leading p s)
 leading-cons p b s h = go (p b) refl h

@@ -17,8 +17,9 @@ use Rattle.base.proofs.Bools.{and-true, and-both}
 use Rattle.base.proofs.HexLaws.{bytes-length}
 use Rattle.base.proofs.LeadingLaws.{leading-le}
 use Rattle.base.proofs.LinesLaws.{end-after, end-inside, none-left, cut, uncut}
-use Rattle.text.specs.Coding.{charOk, isText}
-use Rattle.job.specs.Line.{isPairs, headFormed, wellFormed, codingOf, isForeign, lineOf}
+use Rattle.text.specs.Coding.{charOk, charRun}
+use Rattle.text.proofs.RunLaws.{run-chars}
+use Rattle.job.specs.Line.{isPairs, headFormed, wellFormed, codingOf, goodRun, lineOf}
 use Rattle.job.specs.Pages.{pageFrom, pagesFrom}
 use Rattle.job.specs.Job.{after, judge}
 use Rattle.job.specs.declared.Refusal.the-variants.{Malformed, TooManyLines}
@@ -33,36 +34,18 @@ pub formed-long : (l : List ℕ) → wellFormed l ≡ true → 8 ≤ length l
 unfolding wellFormed
 formed-long l e = head-long l (and-true (headFormed l) _ e .0)
 
--- A text is pairs, and no byte of it is foreign; nor of an empty one; of pairs that are no text, one is.
+-- The characters at a text's front: an empty one has none, and of pairs they are those that `text::char_run` counts.
 module _ (t : List ℕ) (kind : ℕ) where
-  abbrev run : ℕ
-  run = leading (charOk (codingOf kind)) (bytesOf t)
+  pub empty-run : length t ≡ 0 → 0 ≡ goodRun kind (bytesOf t)
+  empty-run e = omega (arith, bytes-length t, leading-le (charOk (codingOf kind)) (bytesOf t))
 
-  text-parts : isText (codingOf kind) t ≡ true → (isPairs t ≡ true) × (length (bytesOf t) ≤ run)
-  unfolding isText isPairs
-  text-parts e =
-      let p = and-true (not (eqb (length t) 0)) _ e in
-      let q = and-true (eqb (leading isHex t) (length t)) _ (p .1) in
-      let z : 2 * run ≡ length t = eqb-true _ _ (q .1) in
-      (and-both (p .0) (and-both (eq-eqb (length t % 2) 0 (omega arith)) (q .0)), omega (arith, bytes-length t))
-
-  pub text-pairs : isText (codingOf kind) t ≡ true → isPairs t ≡ true
-  text-pairs e = text-parts e .0
-
-  pub text-known : isText (codingOf kind) t ≡ true → false ≡ isForeign kind (bytesOf t)
-  text-known e = sym (le-ltb run (length (bytesOf t)) (text-parts e .1))
-
-  pub empty-known : length t ≡ 0 → false ≡ isForeign kind (bytesOf t)
-  empty-known e = sym (le-ltb run (length (bytesOf t)) (omega (arith, bytes-length t)))
-
-  pub pairs-foreign : isText (codingOf kind) t ≡ false → isPairs t ≡ true → true ≡ isForeign kind (bytesOf t)
-  unfolding isText isPairs
-  pairs-foreign f e =
+  pub pairs-run : isPairs t ≡ true → charRun (codingOf kind) t ≡ goodRun kind (bytesOf t)
+  unfolding isPairs
+  pairs-run e =
       let p = and-true (not (eqb (length t) 0)) _ e in
       let q = and-true (eqb (length t % 2) 0) _ (p .1) in
-      let even : length t % 2 ≡ 0 = eqb-true _ _ (q .0) in
-      let r : eqb (2 * run) (length t) ≡ false = simp (p .0, q .1) at f in
-      sym (lt-ltb run (length (bytesOf t)) (omega (arith, bytes-length t, leading-le (charOk (codingOf kind)) (bytesOf t), eqb-false (2 * run) (length t) r)))
+      let all : leading isHex t ≡ length t = eqb-true _ _ (q .1) in
+      run-chars (codingOf kind) t (omega arith)
 
 -- The answer to what is left from the byte `at` on, behind k good lines.
 module _ (job : List ℕ) (at k : ℕ) where

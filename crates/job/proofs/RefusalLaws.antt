@@ -1,19 +1,39 @@
--- The numbers of a refused job are 1 to 9. Assumes nothing.
-use Prim.Native.Nat.{_≤_}
-use native.Mathlib.Omega.{arith}
-use Rattle.job.specs.Refusal.{numberOf}
+-- The numbers and second places of a refusal. Assumes nothing.
+use Prim.Native.Nat.{ℕ}
+use mathlib.Core.Path.{_≡_, refl, ap, _∙_}
+use mathlib.Core.Bool.{true, false}
+use Rattle.base.proofs.Bools.{true-false}
+use Rattle.job.specs.Refusal.{numberOf, positionOf, declinesJob}
 use Rattle.job.specs.declared.Refusal.{Refusal}
 use Rattle.job.specs.declared.Refusal.the-variants.{Malformed, IdentityRange, IdentityReserved, UnknownKind, ToneWithText, TextMissing, TextTooLong, Character, TrailingSpace, TooManyLines, EmptyJob}
 
-pub refused-number : (why : Refusal) → (1 ≤ numberOf why) × (numberOf why ≤ 9)
-refused-number Malformed = (omega arith, omega arith)
-refused-number IdentityRange = (omega arith, omega arith)
-refused-number IdentityReserved = (omega arith, omega arith)
-refused-number UnknownKind = (omega arith, omega arith)
-refused-number ToneWithText = (omega arith, omega arith)
-refused-number TextMissing = (omega arith, omega arith)
-refused-number TextTooLong = (omega arith, omega arith)
-refused-number Character = (omega arith, omega arith)
-refused-number TrailingSpace = (omega arith, omega arith)
-refused-number TooManyLines = (omega arith, omega arith)
-refused-number EmptyJob = (omega arith, omega arith)
+pub refused-number : (why : Refusal) → declinesJob (numberOf why) ≡ true
+refused-number Malformed = refl
+refused-number IdentityRange = refl
+refused-number IdentityReserved = refl
+refused-number UnknownKind = refl
+refused-number ToneWithText = refl
+refused-number TextMissing = refl
+refused-number TextTooLong = refl
+refused-number (Character position) = refl
+refused-number TrailingSpace = refl
+refused-number TooManyLines = refl
+refused-number EmptyJob = refl
+
+-- so it is no other number
+pub refused-not : (n : ℕ) → declinesJob n ≡ false → (why : Refusal) → numberOf why ≡ n → ⊥
+refused-not n f why e = true-false (refused-number why) (ap declinesJob e ∙ f)
+
+-- only number 6 has a second place
+pub refused-position : (why : Refusal) → (numberOf why ≡ 6 → ⊥) → positionOf why ≡ 0
+refused-position Malformed h = refl
+refused-position IdentityRange h = refl
+refused-position IdentityReserved h = refl
+refused-position UnknownKind h = refl
+refused-position ToneWithText h = refl
+refused-position TextMissing h = refl
+refused-position TextTooLong h = refl
+refused-position (Character position) h = absurd (h refl)
+refused-position TrailingSpace h = refl
+refused-position TooManyLines h = refl
+refused-position EmptyJob h = refl

@@ -1,17 +1,18 @@
 -- What the answers settle, case by case. Assumes nothing.
 use Prim.Native.Nat.{ℕ, _≤_}
 use mathlib.Core.Path.{_≡_, refl}
+use mathlib.Core.Bool.{true}
 use mathlib.Core.List.{List}
 use native.Mathlib.Omega.{arith}
 use lib.ListN.{length}
 use borrow.Author.Tests.{lt-ltb, le-ltb}
 use Rattle.job.specs.Job.{jobOf}
-use Rattle.job.specs.Refusal.{jobNumber, jobPlace, jobPages}
+use Rattle.job.specs.Refusal.{declinesJob, jobNumber, jobPlace, jobPosition, jobPages}
 use Rattle.job.specs.Settled.{LineSettled, JobSettled}
 use Rattle.job.specs.declared.JobAnswer.{JobAnswer}
 use Rattle.job.specs.declared.JobAnswer.the-variants.{Accepted, Refused}
 use Rattle.job.proofs.Accepted.{accepted-short, accepted-job}
-use Rattle.job.proofs.RefusalLaws.{refused-number}
+use Rattle.job.proofs.RefusalLaws.{refused-number, refused-not, refused-position}
 
 pub line-settled : (room : ℕ) (line : List ℕ) → LineSettled room line
 line-settled room line = record {
@@ -26,7 +27,7 @@ few-by s (Refused why place) e = omega arith
 
 short-by : (s : List ℕ) (a : JobAnswer) → jobOf s ≡ a → jobNumber a ≡ 0 → length s ≤ 23520
 short-by s (Accepted n) e z = accepted-short s n e
-short-by s (Refused why place) e z = absurd (omega (arith, refused-number why .0))
+short-by s (Refused why place) e z = absurd (refused-not 0 refl why z)
 
 none-by : (a : JobAnswer) → (jobNumber a ≡ 0 → ⊥) → jobPages a ≡ 0
 none-by (Accepted n) h = absurd (h refl)
@@ -34,7 +35,22 @@ none-by (Refused why place) h = refl
 
 unplaced-by : (a : JobAnswer) → jobNumber a ≡ 0 → jobPlace a ≡ 0
 unplaced-by (Accepted n) h = refl
-unplaced-by (Refused why place) h = absurd (omega (arith, refused-number why .0))
+unplaced-by (Refused why place) h = absurd (refused-not 0 refl why h)
+
+own-by : (a : JobAnswer) → (jobNumber a ≡ 0 → ⊥) → declinesJob (jobNumber a) ≡ true
+own-by (Accepted n) h = absurd (h refl)
+own-by (Refused why place) h = refused-number why
+
+only-by : (a : JobAnswer) → (jobNumber a ≡ 6 → ⊥) → jobPosition a ≡ 0
+only-by (Accepted n) h = refl
+only-by (Refused why place) h = refused-position why h
 
 pub job-settled : (s : List ℕ) → JobSettled s
-job-settled s = record { short = short-by s (jobOf s) refl; few = few-by s (jobOf s) refl; none = none-by (jobOf s); unplaced = unplaced-by (jobOf s) }
+job-settled s = record {
+  short = short-by s (jobOf s) refl;
+  few = few-by s (jobOf s) refl;
+  none = none-by (jobOf s);
+  unplaced = unplaced-by (jobOf s);
+  own = own-by (jobOf s);
+  only-6 = only-by (jobOf s);
+}

@@ -1,5 +1,5 @@
 -- A line that is good is sound: none of the tests that could decline it did. Assumes nothing.
-use Prim.Native.Nat.{ℕ, _≤_, _<_}
+use Prim.Native.Nat.{ℕ, _+_, _≤_, _<_}
 use mathlib.Core.Path.{_≡_, refl, sym, _∙_}
 use mathlib.Core.List.{List}
 use mathlib.Core.Bool.{Bool, true, false, cond}
@@ -12,7 +12,7 @@ use Rattle.base.specs.Leading.{leading}
 use Rattle.base.proofs.Bools.{and-true}
 use Rattle.text.specs.Coding.{charOk, endsInSpace, groupsOf}
 use Rattle.text.specs.declared.Coding.the-variants.{Numeric, Alphanumeric}
-use Rattle.job.specs.Line.{wellFormed, isReserved, longestOf, codingOf, functionOf, tonePageOf, textPageOf, kindPageOf, pageOf, lineOf, identityOf, kindOf, textOf}
+use Rattle.job.specs.Line.{wellFormed, isReserved, longestOf, codingOf, functionOf, goodRun, tonePageOf, textPageOf, kindPageOf, pageOf, lineOf, identityOf, kindOf, textOf}
 use Rattle.job.specs.Accepted.{Sound}
 use Rattle.job.specs.declared.Refusal.{Refusal}
 use Rattle.job.specs.declared.Refusal.the-variants.{Malformed, IdentityRange, IdentityReserved, UnknownKind, ToneWithText, TextMissing, TextTooLong, Character, TrailingSpace}
@@ -56,7 +56,7 @@ unfolding textPageOf
 text-texted identity kind bytes low high e =
     let p1 = past (eqb (length bytes) 0) TextMissing _ e in
     let p2 = past (ltb (longestOf kind) (length bytes)) TextTooLong _ (p1 .1) in
-    let p3 = past (ltb (leading (charOk (codingOf kind)) bytes) (length bytes)) Character _ (p2 .1) in
+    let p3 = past (ltb (goodRun kind bytes) (length bytes)) (Character (goodRun kind bytes + 1)) _ (p2 .1) in
     let p4 = past (endsInSpace (codingOf kind) bytes) TrailingSpace _ (p3 .1) in
     let some : length bytes ≡ 0 → ⊥ = eqb-false (length bytes) 0 (p1 .0) in (
       record {

@@ -13,7 +13,7 @@ use Rattle.job.specs.Pages.{pagesOf, pageAt}
 use Rattle.job.specs.Job.{readingOf}
 use Rattle.job.specs.declared.LineAnswer.the-variants.{Good}
 
--- a line that none of numbers 1 to 7 declines
+-- a line that is not refused
 pub record Sound (l : List ℕ) : Type 0 where
   pub good : lineOf l ≡ Good (identityOf l) (kindOf l) (length (textOf l))
   -- the form, the identity, the kind

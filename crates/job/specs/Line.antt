@@ -1,5 +1,6 @@
--- What one page line says, without its newline: a page, or the lowest of refusals 1 to 7 (document 01, "Page lines").
-use Prim.Native.Nat.{ℕ, _/_, _%_}
+-- What one page line says, without its newline: a page, or its first refusal in the order of the table (document 01, "Page lines"),
+-- where 12, 13 and 14 have 5's rank, between 4 and 6 (request R-1).
+use Prim.Native.Nat.{ℕ, _+_, _/_, _%_}
 use mathlib.Core.List.{List}
 use mathlib.Core.Bool.{Bool, cond, not, _&&_, _||_}
 use lib.ListN.{length, getD, take, drop}
@@ -71,22 +72,22 @@ codingOf kind = cond (eqb kind 4) Numeric Alphanumeric
 unfoldable pub functionOf : ℕ → ℕ
 functionOf kind = cond (eqb kind 4) 0 (cond (eqb kind 5) 3 kind)
 
--- whether a byte is foreign to the kind: outside its characters
-abbrev pub isForeign : ℕ → List ℕ → Bool
-isForeign kind bytes = ltb (leading (charOk (codingOf kind)) bytes) (length bytes)
+-- how many of the kind's characters a text begins with; the first bad one stands behind them
+abbrev pub goodRun : ℕ → List ℕ → ℕ
+goodRun kind bytes = leading (charOk (codingOf kind)) bytes
 
--- ---- the refusals, the lowest first
+-- ---- the refusals, the last in rank first
 
--- kinds 0 to 3: a tone has no text (number 5)
+-- kinds 0 to 3: a tone has no text (number 12)
 unfoldable pub tonePageOf : ℕ → ℕ → List ℕ → LineAnswer
 tonePageOf identity kind bytes = cond (eqb (length bytes) 0) (Good identity kind (length bytes)) (Faulty ToneWithText)
 
--- kinds 4 and 5: no character or too many (number 5), a byte outside the kind's characters (6), a numeric text that ends in a space (7)
+-- kinds 4 and 5: no character (number 13), too many (14), one outside the kind's with its position (6), a space that ends a numeric text (7)
 unfoldable pub textPageOf : ℕ → ℕ → List ℕ → LineAnswer
 textPageOf identity kind bytes =
     cond (eqb (length bytes) 0) (Faulty TextMissing)
     (cond (ltb (longestOf kind) (length bytes)) (Faulty TextTooLong)
-    (cond (ltb (leading (charOk (codingOf kind)) bytes) (length bytes)) (Faulty Character)
+    (cond (ltb (goodRun kind bytes) (length bytes)) (Faulty (Character (goodRun kind bytes + 1)))
     (cond (endsInSpace (codingOf kind) bytes) (Faulty TrailingSpace)
     (Good identity kind (length bytes)))))
 

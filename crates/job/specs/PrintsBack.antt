@@ -10,7 +10,7 @@ use Rattle.job.specs.Pages.{Page, pageAt}
 use Rattle.job.specs.Accepted.{Sound, AcceptedJob}
 use Rattle.job.specs.Print.{printed}
 
--- a line that none of numbers 1 to 7 declines, by its identity, its kind and its text's digits
+-- a line that is not refused, by its identity, its kind and its text's digits
 abbrev pub LinePrinted : Type 0
 LinePrinted = (l : List ℕ) → Sound l → printed (identityOf l) (kindOf l) (textPairs l) false ≡ l ++ (10 ∷ [])
 

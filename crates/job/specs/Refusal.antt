@@ -1,23 +1,43 @@
--- The numbers and places of document 01's table, for each case of an answer.
+-- The numbers and places of document 01's table and of request R-1, for each case of an answer.
 use Prim.Native.Nat.{ℕ}
+use mathlib.Core.Bool.{Bool, _||_}
+use Rattle.base.specs.Hex.{between}
 use Rattle.job.specs.declared.Refusal.{Refusal}
 use Rattle.job.specs.declared.Refusal.the-variants.{Malformed, IdentityRange, IdentityReserved, UnknownKind, ToneWithText, TextMissing, TextTooLong, Character, TrailingSpace, TooManyLines, EmptyJob}
 use Rattle.job.specs.declared.JobAnswer.{JobAnswer}
 use Rattle.job.specs.declared.JobAnswer.the-variants.{Accepted, Refused}
 
--- the number of a refusal; a text's length can be wrong in three ways, all of them number 5
+-- the number of a refusal; a text's length can be wrong in three ways
 abbrev pub numberOf : Refusal → ℕ
 numberOf Malformed = 1
 numberOf IdentityRange = 2
 numberOf IdentityReserved = 3
 numberOf UnknownKind = 4
-numberOf ToneWithText = 5
-numberOf TextMissing = 5
-numberOf TextTooLong = 5
-numberOf Character = 6
+numberOf ToneWithText = 12
+numberOf TextMissing = 13
+numberOf TextTooLong = 14
+numberOf (Character position) = 6
 numberOf TrailingSpace = 7
 numberOf TooManyLines = 8
 numberOf EmptyJob = 9
+
+-- its second place: with number 6 the position of the first bad character, 0 with every other number
+abbrev pub positionOf : Refusal → ℕ
+positionOf Malformed = 0
+positionOf IdentityRange = 0
+positionOf IdentityReserved = 0
+positionOf UnknownKind = 0
+positionOf ToneWithText = 0
+positionOf TextMissing = 0
+positionOf TextTooLong = 0
+positionOf (Character position) = position
+positionOf TrailingSpace = 0
+positionOf TooManyLines = 0
+positionOf EmptyJob = 0
+
+-- the numbers that decline a job
+abbrev pub declinesJob : ℕ → Bool
+declinesJob n = between 1 4 n || (between 12 14 n || between 6 9 n)
 
 -- the number of a job's answer; 0 for an accepted job
 abbrev pub jobNumber : JobAnswer → ℕ
@@ -33,3 +53,8 @@ jobPages (Refused why place) = 0
 abbrev pub jobPlace : JobAnswer → ℕ
 jobPlace (Accepted n) = 0
 jobPlace (Refused why place) = place
+
+-- its second place; 0 for an accepted job
+abbrev pub jobPosition : JobAnswer → ℕ
+jobPosition (Accepted n) = 0
+jobPosition (Refused why place) = positionOf why

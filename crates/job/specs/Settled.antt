@@ -1,11 +1,12 @@
 -- What the numbers, places and values of this crate's answers settle. `line-settled` and `job-settled` in proofs/Settled.antt prove it.
 use Prim.Native.Nat.{ℕ, _≤_, _<_}
 use mathlib.Core.Path.{_≡_}
+use mathlib.Core.Bool.{true}
 use mathlib.Core.List.{List}
 use lib.ListN.{length}
 use Rattle.job.specs.Job.{jobOf}
 use Rattle.job.specs.Print.{printingOf, bytesPrinted, numberOf, placeOf}
-use Rattle.job.specs.Refusal.{jobNumber, jobPlace, jobPages}
+use Rattle.job.specs.Refusal.{declinesJob, jobNumber, jobPlace, jobPosition, jobPages}
 
 -- a line into room for so many bytes: number 10 exactly where the line is longer, and then no byte of it is written, else all
 pub record LineSettled (room : ℕ) (line : List ℕ) : Type 0 where
@@ -19,3 +20,6 @@ pub record JobSettled (s : List ℕ) : Type 0 where
   pub few : jobPages (jobOf s) ≤ 48
   pub none : (jobNumber (jobOf s) ≡ 0 → ⊥) → jobPages (jobOf s) ≡ 0
   pub unplaced : jobNumber (jobOf s) ≡ 0 → jobPlace (jobOf s) ≡ 0
+  -- it is declined by a job's own numbers, and only number 6 has a second place
+  pub own : (jobNumber (jobOf s) ≡ 0 → ⊥) → declinesJob (jobNumber (jobOf s)) ≡ true
+  pub only-6 : (jobNumber (jobOf s) ≡ 6 → ⊥) → jobPosition (jobOf s) ≡ 0

@@ -1,13 +1,14 @@
-// Reads a job's page lines (document 01, "Page lines" and the table of refusals).
+// Reads a job's page lines (document 01, "Page lines" and the table of refusals, with request R-1).
 ghost use mathlib.Core.Path.{_≡_};
 ghost use mathlib.Core.Bool.{cond};
 ghost use mathlib.Core.List.{[]};
 ghost use Prim.Native.Nat.{_*_, _≤_};
 ghost use lib.ListN.{length, take, drop};
-ghost use Rattle.base.specs.Hex.{bytesOf};
+ghost use Rattle.base.specs.Hex.{isHex, bytesOf};
+ghost use Rattle.base.specs.Leading.{leading};
 ghost use Rattle.base.specs.Lines.{split};
-ghost use Rattle.job.specs.Refusal.{numberOf, jobNumber, jobPlace};
-ghost use Rattle.job.specs.Line.{isPairs, headFormed, tailFormed, isReserved, longestOf, codingOf, functionOf, isForeign, tonePageOf, textPageOf, kindPageOf, pageOf, lineOf};
+ghost use Rattle.job.specs.Refusal.{numberOf, positionOf, jobNumber, jobPlace, jobPosition};
+ghost use Rattle.job.specs.Line.{isPairs, headFormed, tailFormed, isReserved, longestOf, codingOf, functionOf, goodRun, tonePageOf, textPageOf, kindPageOf, pageOf, lineOf};
 ghost use Rattle.job.specs.Pages.{pagesOf};
 ghost use Rattle.base.specs.Lists.{over};
 ghost use Rattle.job.specs.Print.{headOf, spaced, ending, printed, printingOf, bytesPrinted};
@@ -16,7 +17,7 @@ ghost use Rattle.job.specs.declared.Refusal.the-variants.{Malformed};
 ghost use Rattle.job.specs.declared.LineAnswer.the-variants.{Faulty};
 use text::Coding;
 
-// Why a job is declined, in the order of the table. A text's length is wrong in one of three ways.
+// Why a job is declined, in the order of the tests.
 pub enum Refusal {
     Malformed,
     IdentityRange,
@@ -25,7 +26,8 @@ pub enum Refusal {
     ToneWithText,
     TextMissing,
     TextTooLong,
-    Character,
+    // The first bad character's position in the text, counted from 1.
+    Character(usize),
     TrailingSpace,
     TooManyLines,
     EmptyJob,
@@ -64,10 +66,10 @@ fn refusal_number(why: Refusal) -> u32
         Refusal::IdentityRange => 2,
         Refusal::IdentityReserved => 3,
         Refusal::UnknownKind => 4,
-        Refusal::ToneWithText => 5,
-        Refusal::TextMissing => 5,
-        Refusal::TextTooLong => 5,
-        Refusal::Character => 6,
+        Refusal::ToneWithText => 12,
+        Refusal::TextMissing => 13,
+        Refusal::TextTooLong => 14,
+        Refusal::Character(_) => 6,
         Refusal::TrailingSpace => 7,
         Refusal::TooManyLines => 8,
         Refusal::EmptyJob => 9,
@@ -94,8 +96,38 @@ pub fn place(a: JobAnswer) -> usize
     }
 }
 
-// Whether a text is one or more pairs of hexadecimal digits.
-fn is_pairs(t: &[u8]) -> bool
+// The second place of a refusal: the position that number 6 has; 0 with every other number.
+fn refusal_position(why: Refusal) -> usize
+    ensures { λ r. ⌜ r ≡ positionOf why ⌝ }
+{
+    match why {
+        Refusal::Malformed => 0,
+        Refusal::IdentityRange => 0,
+        Refusal::IdentityReserved => 0,
+        Refusal::UnknownKind => 0,
+        Refusal::ToneWithText => 0,
+        Refusal::TextMissing => 0,
+        Refusal::TextTooLong => 0,
+        Refusal::Character(position) => position,
+        Refusal::TrailingSpace => 0,
+        Refusal::TooManyLines => 0,
+        Refusal::EmptyJob => 0,
+    }
+}
+
+// The second place of a job's answer; 0 where the job is accepted.
+pub fn position(a: JobAnswer) -> usize
+    ensures { λ r. ⌜ r ≡ jobPosition a ⌝ }
+{
+    match a {
+        JobAnswer::Accepted(_) => 0,
+        JobAnswer::Refused { why, place: _ } => refusal_position(why),
+    }
+}
+
+// Whether a text is one or more pairs of hexadecimal digits, of which so many at its front are known to be.
+fn is_pairs(t: &[u8], known: usize) -> bool
+    requires { ⌜ 2 * known ≤ leading isHex (now t) ⌝ }
     ensures { λ r. ⌜ r ≡ isPairs (now (t .entry)) ⌝ }
 {
     let n = t.len();
@@ -103,7 +135,8 @@ fn is_pairs(t: &[u8]) -> bool
         return false;
     }
     if n % 2 == 0 {
-        base::hex_run(t) == n
+        let digits = 2 * known;
+        digits + base::hex_run(&t[digits..]) == n
     } else {
         false
     }
@@ -168,7 +201,7 @@ pub fn function(kind: u8) -> u32
     }
 }
 
-// A tone, or number 5.
+// A tone, or number 12.
 fn judge_tone(identity: u32, kind: u8, text: &[u8]) -> LineAnswer
     ensures { λ r. ⌜ r ≡ tonePageOf identity kind (bytesOf (now (text .entry))) ⌝ }
 {
@@ -180,9 +213,9 @@ fn judge_tone(identity: u32, kind: u8, text: &[u8]) -> LineAnswer
     }
 }
 
-// A page with a text, or the lowest of numbers 5 to 7. The caller has found whether a byte is foreign to the kind.
-fn judge_text(identity: u32, kind: u8, text: &[u8], foreign: bool) -> LineAnswer
-    requires { ⌜ foreign ≡ isForeign kind (bytesOf (now text)) ⌝ }
+// A page with a text, or the first of numbers 13, 14, 6 and 7. The caller has counted the kind's characters at the text's front.
+fn judge_text(identity: u32, kind: u8, text: &[u8], good: usize) -> LineAnswer
+    requires { ⌜ good ≡ goodRun kind (bytesOf (now text)) ⌝ }
     ensures { λ r. ⌜ r ≡ textPageOf identity kind (bytesOf (now (text .entry))) ⌝ }
 {
     let n = text.len() / 2;
@@ -192,8 +225,9 @@ fn judge_text(identity: u32, kind: u8, text: &[u8], foreign: bool) -> LineAnswer
     if longest(kind) < n {
         return LineAnswer::Faulty(Refusal::TextTooLong);
     }
-    if foreign {
-        return LineAnswer::Faulty(Refusal::Character);
+    if good < n {
+        let position = good + 1;
+        return LineAnswer::Faulty(Refusal::Character(position));
     }
     if text::ends_in_space(coding(kind), text) {
         return LineAnswer::Faulty(Refusal::TrailingSpace);
@@ -201,21 +235,21 @@ fn judge_text(identity: u32, kind: u8, text: &[u8], foreign: bool) -> LineAnswer
     LineAnswer::Good(identity, kind, n)
 }
 
-// The page by its kind, or the lowest of numbers 4 to 7.
-fn judge_kind(identity: u32, kind: u8, text: &[u8], foreign: bool) -> LineAnswer
-    requires { ⌜ foreign ≡ isForeign kind (bytesOf (now text)) ⌝ }
+// The page by its kind, or number 4 or its text's refusal.
+fn judge_kind(identity: u32, kind: u8, text: &[u8], good: usize) -> LineAnswer
+    requires { ⌜ good ≡ goodRun kind (bytesOf (now text)) ⌝ }
     ensures { λ r. ⌜ r ≡ kindPageOf identity kind (bytesOf (now (text .entry))) ⌝ }
 {
     match kind {
         0..=3 => judge_tone(identity, kind, text),
-        4 | 5 => judge_text(identity, kind, text, foreign),
+        4 | 5 => judge_text(identity, kind, text, good),
         _ => LineAnswer::Faulty(Refusal::UnknownKind),
     }
 }
 
-// The page of a well-formed line, or the lowest of numbers 2 to 7.
-fn judge_page(identity: u32, kind: u8, text: &[u8], foreign: bool) -> LineAnswer
-    requires { ⌜ foreign ≡ isForeign kind (bytesOf (now text)) ⌝ }
+// The page of a well-formed line, or its first refusal.
+fn judge_page(identity: u32, kind: u8, text: &[u8], good: usize) -> LineAnswer
+    requires { ⌜ good ≡ goodRun kind (bytesOf (now text)) ⌝ }
     ensures { λ r. ⌜ r ≡ pageOf identity kind (bytesOf (now (text .entry))) ⌝ }
 {
     if 0x1FFFFF < identity {
@@ -224,29 +258,27 @@ fn judge_page(identity: u32, kind: u8, text: &[u8], foreign: bool) -> LineAnswer
     if is_reserved(identity) {
         return LineAnswer::Faulty(Refusal::IdentityReserved);
     }
-    judge_kind(identity, kind, text, foreign)
+    judge_kind(identity, kind, text, good)
 }
 
-// The page of what must be pairs, or the lowest of numbers 1 to 7. A good text is passed over once, digits and characters together;
-// only one that ends the reading is passed over again.
+// The page of what must be pairs, or its first refusal. A text is passed over once: digits and characters together up to the first bad
+// character, and only digits behind it.
 fn judge_pairs(identity: u32, kind: u8, text: &[u8]) -> LineAnswer
     ensures { λ r. ⌜ r ≡ cond (isPairs (now (text .entry))) (pageOf identity kind (bytesOf (now (text .entry)))) (Faulty Malformed) ⌝ }
 {
-    if text::is_text(coding(kind), text) {
-        return judge_page(identity, kind, text, false);
-    }
-    if is_pairs(text) {
-        return judge_page(identity, kind, text, true);
+    let good = text::char_run(coding(kind), text);
+    if is_pairs(text, good) {
+        return judge_page(identity, kind, text, good);
     }
     LineAnswer::Faulty(Refusal::Malformed)
 }
 
-// The page by what stands behind its kind, which must be nothing, or a space and pairs; or the lowest of numbers 1 to 7.
+// The page by what stands behind its kind, which must be nothing, or a space and pairs; or its first refusal.
 fn judge_tail(identity: u32, kind: u8, t: &[u8]) -> LineAnswer
     ensures { λ r. ⌜ r ≡ cond (tailFormed (now (t .entry))) (pageOf identity kind (bytesOf (drop 1 (now (t .entry))))) (Faulty Malformed) ⌝ }
 {
     if t.len() == 0 {
-        return judge_page(identity, kind, t, false);
+        return judge_page(identity, kind, t, 0);
     }
     if t[0] != b' ' {
         return LineAnswer::Faulty(Refusal::Malformed);

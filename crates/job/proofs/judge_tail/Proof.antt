@@ -7,13 +7,13 @@ use borrow.Author.Tests.{eq-eqb, ne-eqb}
 use denote.Ref.{now}
 use Rattle.job.specs.Line.{tailFormed}
 use Rattle.base.proofs.ListLaws.{to-end}
-use Rattle.job.proofs.Laws.{empty-known}
+use Rattle.job.proofs.Laws.{empty-run}
 use borrow.Author.Needs.{needs}
 use Rattle.job.proofs.judge_tail.Statement.{statement}
 use Rattle.job.proofs.judge_tail.Tie as tie
 
 judge-page-requires : tie.Need-judge-page-requires
-judge-page-requires c κs = let a = c .before .before .args in empty-known (now (a .t)) (a .kind) (c .if1 .taken)
+judge-page-requires c κs = let a = c .before .before .args in empty-run (now (a .t)) (a .kind) (c .if1 .taken)
 
 returns : tie.Need-returns
 unfolding tailFormed

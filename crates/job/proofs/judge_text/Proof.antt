@@ -1,4 +1,5 @@
 -- `job::judge_text` meets its contract: at each `return` the tests that led there decide `textPageOf`. Assumes nothing.
+use Prim.Native.Nat.{ℕ, _+_}
 use mathlib.Core.Path.{_≡_, sym, ap, _∙_}
 use native.Mathlib.Omega.{arith}
 use borrow.Author.Tests.{lt-ltb, le-ltb, eq-eqb, ne-eqb}
@@ -8,8 +9,9 @@ use Rattle.base.specs.Hex.{bytesOf}
 use Rattle.base.proofs.HexLaws.{bytes-length}
 use Rattle.text.specs.Coding.{endsInSpace}
 use Rattle.text.specs.declared.Coding.{Coding}
-use Rattle.job.specs.Line.{longestOf, codingOf, textPageOf}
-use Rattle.job.specs.declared.LineAnswer.the-variants.{Good}
+use Rattle.job.specs.Line.{longestOf, codingOf, goodRun, textPageOf}
+use Rattle.job.specs.declared.Refusal.the-variants.{Character}
+use Rattle.job.specs.declared.LineAnswer.the-variants.{Good, Faulty}
 use borrow.Author.Needs.{needs}
 use Rattle.job.proofs.judge_text.Statement.{statement}
 use Rattle.job.proofs.judge_text.Tie as tie
@@ -33,13 +35,17 @@ returns-2 c =
     let n = bytes-length (now (a .text)) in
     simp (ne-eqb (length b) 0 (λ e. c .before .before .if1 .left (sym n ∙ e)), lt-ltb (longestOf (a .kind)) (length b) (omega arith))
 
+add-position : tie.Need-add-position
+add-position c = search needs
+
 returns-3 : tie.Need-returns-3
 unfolding textPageOf
 returns-3 c =
     let a = c .before .before .before .before .before .args in
     let b = bytesOf (now (a .text)) in
     let n = bytes-length (now (a .text)) in
-    simp (ne-eqb (length b) 0 (λ e. c .before .before .before .if1 .left (sym n ∙ e)), le-ltb (longestOf (a .kind)) (length b) (omega arith), sym (c .before .before .before .before .before .pre) ∙ c .if3 .taken)
+    simp (ne-eqb (length b) 0 (λ e. c .before .before .before .if1 .left (sym n ∙ e)), le-ltb (longestOf (a .kind)) (length b) (omega arith), lt-ltb (goodRun (a .kind) b) (length b) (omega arith))
+    (ap (λ (x : ℕ). Faulty (Character (x + 1))) (c .before .before .before .before .before .pre))
 
 coding-requires : tie.Need-coding-requires
 coding-requires c κs = search needs
@@ -53,7 +59,7 @@ returns-4 c =
     let a = c .before .before .before .before .before .before .before .before .args in
     let b = bytesOf (now (a .text)) in
     let n = bytes-length (now (a .text)) in
-    simp (ne-eqb (length b) 0 (λ e. c .before .before .before .before .before .before .if1 .left (sym n ∙ e)), le-ltb (longestOf (a .kind)) (length b) (omega arith), sym (c .before .before .before .before .before .before .before .before .pre) ∙ c .before .before .before .if3 .left, sym (spaced (c .before)) ∙ c .if4 .taken)
+    simp (ne-eqb (length b) 0 (λ e. c .before .before .before .before .before .before .if1 .left (sym n ∙ e)), le-ltb (longestOf (a .kind)) (length b) (omega arith), le-ltb (goodRun (a .kind) b) (length b) (omega arith), sym (spaced (c .before)) ∙ c .if4 .taken)
 
 returns-5 : tie.Need-returns-5
 unfolding textPageOf
@@ -61,7 +67,7 @@ returns-5 c =
     let a = c .before .before .before .before .before .before .before .before .args in
     let b = bytesOf (now (a .text)) in
     let n = bytes-length (now (a .text)) in
-    simp (ne-eqb (length b) 0 (λ e. c .before .before .before .before .before .before .if1 .left (sym n ∙ e)), le-ltb (longestOf (a .kind)) (length b) (omega arith), sym (c .before .before .before .before .before .before .before .before .pre) ∙ c .before .before .before .if3 .left, sym (spaced (c .before)) ∙ c .if4 .left)
+    simp (ne-eqb (length b) 0 (λ e. c .before .before .before .before .before .before .if1 .left (sym n ∙ e)), le-ltb (longestOf (a .kind)) (length b) (omega arith), le-ltb (goodRun (a .kind) b) (length b) (omega arith), sym (spaced (c .before)) ∙ c .if4 .left)
     (ap (Good (a .identity) (a .kind)) (sym n))
 
 pub judge-text-spec : {M : Type 1} → statement M
@@ -71,6 +77,7 @@ judge-text-spec =
     returns
     longest-requires
     returns-2
+    add-position
     returns-3
     coding-requires
     ends-in-space-requires
