@@ -1,8 +1,9 @@
--- The library's answers as C has them: numbers only. A number is that of document 01's table, 0 where nothing is declined; a place is its place.
+-- The library's answers as C has them: numbers only. A number is that of document 01's table, 0 where nothing is declined; a place is its
+-- place, and a position its second place (request R-1).
 use Prim.Native.Nat.{ℕ}
 use Rattle.codeword.specs.Answer as correction
 use Rattle.codeword.specs.declared.Correction.{Correction}
-use Rattle.job.specs.Refusal.{jobNumber, jobPlace}
+use Rattle.job.specs.Refusal.{jobNumber, jobPlace, jobPosition}
 use Rattle.job.specs.declared.JobAnswer.{JobAnswer}
 use Rattle.job.specs.declared.JobAnswer.the-variants.{Accepted, Refused}
 use Rattle.transmission.specs.Report as report
@@ -27,11 +28,18 @@ wordFor w a = record { word = correction.wordRead w a; number = correction.numbe
 
 -- a job's report; the counts of a declined one are zero
 abbrev pub reportFor : Report → CardReport
-reportFor r = record { place = report.placeOf r; number = report.numberOf r; batches = report.batchesOf r; words = report.wordsOf r }
+reportFor r =
+    record {
+      place = report.placeOf r;
+      position = report.positionOf r;
+      number = report.numberOf r;
+      batches = report.batchesOf r;
+      words = report.wordsOf r;
+    }
 
 -- a listing's answer
 abbrev pub bytesFor : Listed → CardBytes
-bytesFor a = record { place = listed.placeOf a; bytes = listed.countListed a; number = listed.numberOf a }
+bytesFor a = record { place = listed.placeOf a; position = listed.positionOf a; bytes = listed.countListed a; number = listed.numberOf a }
 
 -- a reading's answer
 abbrev pub readingFor : Reading → CardReading
@@ -48,7 +56,7 @@ readingFor r =
 
 -- the answer to a job whose sending is to start
 abbrev pub refusalFor : JobAnswer → CardRefusal
-refusalFor a = record { place = jobPlace a; number = jobNumber a }
+refusalFor a = record { place = jobPlace a; position = jobPosition a; number = jobNumber a }
 
 -- the caller's state once a job is started: the job's own, or as it was where the job is declined
 abbrev pub stateFor : JobAnswer → Sender → Sender → Sender

@@ -36,6 +36,7 @@ pub struct CardWord {
 #[repr(C)]
 pub struct CardReport {
     pub place: usize,
+    pub position: usize,
     pub number: u32,
     pub batches: u32,
     pub words: u32,
@@ -45,6 +46,7 @@ pub struct CardReport {
 #[repr(C)]
 pub struct CardBytes {
     pub place: usize,
+    pub position: usize,
     pub bytes: usize,
     pub number: u32,
 }
@@ -61,10 +63,11 @@ pub struct CardReading {
     pub changed: Changes,
 }
 
-// A number and its place.
+// A number and its places.
 #[repr(C)]
 pub struct CardRefusal {
     pub place: usize,
+    pub position: usize,
     pub number: u32,
 }
 
@@ -125,22 +128,26 @@ fn report_numbers(r: Report) -> CardReport
     ensures { λ n. ⌜ n ≡ reportFor r ⌝ }
 {
     let place = transmission::place(r);
+    let position = transmission::position(r);
     let number = transmission::number(r);
     match r {
         Report::Sent { batches, words } => CardReport {
             place: place,
+            position: position,
             number: number,
             batches: batches,
             words: words,
         },
         Report::Declined { why: _, place: _ } => CardReport {
             place: place,
+            position: position,
             number: number,
             batches: 0,
             words: 0,
         },
         Report::NoRoom => CardReport {
             place: place,
+            position: position,
             number: number,
             batches: 0,
             words: 0,
@@ -164,20 +171,24 @@ fn listed_numbers(a: Listed) -> CardBytes
     ensures { λ n. ⌜ n ≡ bytesFor a ⌝ }
 {
     let place = job_listing::place(a);
+    let position = job_listing::position(a);
     let number = job_listing::number(a);
     match a {
         Listed::Written(n) => CardBytes {
             place: place,
+            position: position,
             bytes: n,
             number: number,
         },
         Listed::Declined { why: _, place: _ } => CardBytes {
             place: place,
+            position: position,
             bytes: 0,
             number: number,
         },
         Listed::NoRoom => CardBytes {
             place: place,
+            position: position,
             bytes: 0,
             number: number,
         },
@@ -296,9 +307,11 @@ fn begin(
     let opening = sender::start_with(job, words);
     let answer = opening.answer;
     let place = job::place(answer);
+    let position = job::position(answer);
     let number = job::number(answer);
     let refusal = CardRefusal {
         place: place,
+        position: position,
         number: number,
     };
     match answer {

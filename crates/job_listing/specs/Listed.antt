@@ -22,7 +22,7 @@ listingText s = textOf (transmissionOf (sendingsOf s))
 abbrev pub writtenInto : ℕ → List ℕ → Listed
 writtenInto room text = cond (ltb room (length text)) NoRoom (Written (length text))
 
--- numbers 1 to 9 come first; then number 10
+-- the job's own refusal comes first; then number 10
 abbrev pub answered : JobAnswer → ℕ → List ℕ → Listed
 answered (Refused why place) room text = Declined why place
 answered (Accepted n) room text = writtenInto room text
@@ -43,13 +43,20 @@ countListed (Written n) = n
 countListed (Declined why place) = 0
 countListed NoRoom = 0
 
--- the number of an answer in document 01's table, 0 where the listing is written; and its place
+-- the number of an answer in document 01's table, 0 where the listing is written
 abbrev pub numberOf : Listed → ℕ
 numberOf (Written n) = 0
 numberOf (Declined why place) = refusal.numberOf why
 numberOf NoRoom = 10
 
+-- its place
 abbrev pub placeOf : Listed → ℕ
 placeOf (Written n) = 0
 placeOf (Declined why place) = place
 placeOf NoRoom = 0
+
+-- its second place: the position that number 6 has
+abbrev pub positionOf : Listed → ℕ
+positionOf (Written n) = 0
+positionOf (Declined why place) = refusal.positionOf why
+positionOf NoRoom = 0

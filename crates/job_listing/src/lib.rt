@@ -4,7 +4,7 @@ ghost use Prim.Native.Nat.{_≤_};
 ghost use lib.ListN.{length, take};
 ghost use Rattle.base.specs.Lists.{over};
 ghost use Rattle.listing.specs.Text.{textOf};
-ghost use Rattle.job_listing.specs.Listed.{listingText, listedOf, writtenInto, bytesListed, numberOf, placeOf};
+ghost use Rattle.job_listing.specs.Listed.{listingText, listedOf, writtenInto, bytesListed, numberOf, placeOf, positionOf};
 use job::JobAnswer;
 use job::Refusal;
 use listing::Writing;
@@ -14,7 +14,7 @@ use transmission::Report;
 pub enum Listed {
     // The number of bytes.
     Written(usize),
-    // A line's or the job's own refusal, numbers 1 to 9, with its place.
+    // The job's own refusal, with its place.
     Declined { why: Refusal, place: usize },
     // The lent slice is shorter than the listing: number 10.
     NoRoom,
@@ -41,6 +41,20 @@ pub fn place(a: Listed) -> usize
     match a {
         Listed::Written(_) => 0,
         Listed::Declined { why: _, place } => place,
+        Listed::NoRoom => 0,
+    }
+}
+
+// The second place of an answer; 0 where the listing is written.
+pub fn position(a: Listed) -> usize
+    ensures { λ r. ⌜ r ≡ positionOf a ⌝ }
+{
+    match a {
+        Listed::Written(_) => 0,
+        Listed::Declined { why, place } => job::position(JobAnswer::Refused {
+            why: why,
+            place: place,
+        }),
         Listed::NoRoom => 0,
     }
 }

@@ -68,7 +68,7 @@ abbrev pub stateBy : JobAnswer → List Sending → Sender
 stateBy (job-answer.Accepted n) xs = startOf xs
 stateBy (job-answer.Refused why place) xs = noState
 
--- what starting a job answers: numbers 1 to 9 as reading the job gives them, and the state
+-- what starting a job answers: what reading it answers, and the state
 unfoldable pub startedOf : List ℕ → Started
 startedOf s = record { answer = jobOf s; state = stateBy (jobOf s) (sendingsOf s) }
 

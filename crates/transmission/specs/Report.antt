@@ -21,7 +21,7 @@ sentInto xs words slots =
     cond (ltb words (wordCount (placementOf xs)) || ltb slots (length xs)) NoRoom
     (Sent (batches (placementOf xs)) (wordCount (placementOf xs)))
 
--- numbers 1 to 9 come first; then number 10
+-- the job's own refusal comes first; then number 10
 abbrev pub answered : JobAnswer → List Sending → ℕ → ℕ → Report
 answered (Refused why place) xs words slots = Declined why place
 answered (Accepted n) xs words slots = sentInto xs words slots
@@ -52,6 +52,12 @@ abbrev pub placeOf : Report → ℕ
 placeOf (Sent batches words) = 0
 placeOf (Declined why place) = place
 placeOf NoRoom = 0
+
+-- its second place: the position that number 6 has
+abbrev pub positionOf : Report → ℕ
+positionOf (Sent batches words) = 0
+positionOf (Declined why place) = refusal.positionOf why
+positionOf NoRoom = 0
 
 -- its number of batches and of words: zero where the job is declined
 abbrev pub batchesOf : Report → ℕ

@@ -10,7 +10,7 @@ ghost use Rattle.job.specs.Job.{jobOf, readingOf};
 ghost use Rattle.transmission.specs.Sending.{sendingFrom, sendingsOf};
 ghost use Rattle.transmission.specs.Transmission.{transmissionOf};
 ghost use Rattle.transmission.specs.Transmitted.{slotIndex};
-ghost use Rattle.transmission.specs.Report.{sentInto, reportOf, wordsSent, slotsSent, numberOf, placeOf};
+ghost use Rattle.transmission.specs.Report.{sentInto, reportOf, wordsSent, slotsSent, numberOf, placeOf, positionOf};
 ghost use Rattle.transmission.specs.Writing.{Planned, blankAt, withSending};
 use codeword::Codeword;
 use job::JobAnswer;
@@ -24,7 +24,7 @@ const PREAMBLE: u32 = 0xAAAA_AAAA;
 pub enum Report {
     // The number of batches, and of words: 18 plus 17 a batch.
     Sent { batches: u32, words: u32 },
-    // A line's or the job's own refusal, numbers 1 to 9, with its place.
+    // The job's own refusal, with its place.
     Declined { why: Refusal, place: usize },
     // A lent slice is shorter than the answer: number 10.
     NoRoom,
@@ -39,9 +39,9 @@ pub fn number(r: Report) -> u32
             batches: _,
             words: _,
         } => 0,
-        Report::Declined { why, place: _ } => job::number(JobAnswer::Refused {
+        Report::Declined { why, place } => job::number(JobAnswer::Refused {
             why: why,
-            place: 0,
+            place: place,
         }),
         Report::NoRoom => 10,
     }
@@ -57,6 +57,23 @@ pub fn place(r: Report) -> usize
             words: _,
         } => 0,
         Report::Declined { why: _, place } => place,
+        Report::NoRoom => 0,
+    }
+}
+
+// The second place of a report; 0 where the job is sent.
+pub fn position(r: Report) -> usize
+    ensures { λ n. ⌜ n ≡ positionOf r ⌝ }
+{
+    match r {
+        Report::Sent {
+            batches: _,
+            words: _,
+        } => 0,
+        Report::Declined { why, place } => job::position(JobAnswer::Refused {
+            why: why,
+            place: place,
+        }),
         Report::NoRoom => 0,
     }
 }
