@@ -1,5 +1,5 @@
 -- What the programs print, case by case, as the code goes. Assumes nothing.
-use mathlib.Core.Path.{_≡_, sym, ap, _∙_}
+use mathlib.Core.Path.{_≡_, refl, sym, ap, _∙_}
 use mathlib.Core.Bool.{true, false}
 use mathlib.Core.List.{List}
 use Prim.Native.Nat.{ℕ, _≤_}
@@ -11,7 +11,7 @@ use Rattle.io.specs.Counts.{Counts}
 use Rattle.base.specs.Lists.{over}
 use Rattle.job.specs.Refusal as refusal
 use Rattle.job.specs.declared.Refusal.{Refusal}
-use Rattle.job.proofs.RefusalLaws.{refused-number}
+use Rattle.job.proofs.RefusalLaws.{refused-not}
 use Rattle.job_listing.specs.Listed as listed
 use Rattle.job_listing.specs.Listed.{listingText, listedOf}
 use Rattle.job_listing.specs.declared.Listed.{Listed}
@@ -43,33 +43,34 @@ counted old text {n} {out} p =
     let inside : n ≤ length out = omega (arith, p .0, ap length (p .1), length-append text (drop (length text) old)) in
     (p .0, (p .1, (inside, sym (length-take-le n out inside))))
 
--- the line of a refusal, by the number and place that were asked for, over what a declined call left as it was
-pub line-as : (old : List ℕ) (number place : ℕ) {left out : List ℕ} {num pl n : ℕ} → num ≡ number → pl ≡ place → left ≡ old → Printed left (refusalLine num pl) n out → Printed old (refusalLine number place) n out
-line-as old number place a b e p = rw (a, b, e) at p
+-- the line of a refusal, by the number and places that were asked for, over what a declined call left as it was
+pub line-as : (old : List ℕ) (number place position : ℕ) {left out : List ℕ} {num pl pos n : ℕ} → num ≡ number → pl ≡ place → pos ≡ position → left ≡ old
+    → Printed left (refusalLine num pl pos) n out → Printed old (refusalLine number place position) n out
+line-as old number place position a b c e p = rw (a, b, c, e) at p
 
 module _ (s old : List ℕ) {n : ℕ} {out : List ℕ} where
   -- number 24
-  pub send-long : isLong s ≡ true → Printed old (refusalLine 24 0) n out → Printed old (sendPrints s) n out
+  pub send-long : isLong s ≡ true → Printed old (refusalLine 24 0 0) n out → Printed old (sendPrints s) n out
   unfolding sendPrints
-  send-long h p = same old (refusalLine 24 0) (sendPrints s) out n (rw h) p
+  send-long h p = same old (refusalLine 24 0 0) (sendPrints s) out n (rw h) p
 
-  pub read-long : isLong s ≡ true → Printed old (refusalLine 24 0) n out → Printed old (readPrints s) n out
+  pub read-long : isLong s ≡ true → Printed old (refusalLine 24 0 0) n out → Printed old (readPrints s) n out
   unfolding readPrints
-  read-long h p = same old (refusalLine 24 0) (readPrints s) out n (rw h) p
+  read-long h p = same old (refusalLine 24 0 0) (readPrints s) out n (rw h) p
 
   -- the listing, or the line of its refusal
   pub send-is : (l : Listed) → isLong s ≡ false → length old ≡ 46062 → l ≡ listedOf s (length old)
-      → Printed old (answerText (listed.numberOf l) (listed.placeOf l) (listingText s)) n out → Printed old (sendPrints s) n out
+      → Printed old (answerText (listed.numberOf l) (listed.placeOf l) (listed.positionOf l) (listingText s)) n out → Printed old (sendPrints s) n out
   unfolding sendPrints
   send-is l h room e p =
-      same old (answerText (listed.numberOf l) (listed.placeOf l) (listingText s)) (sendPrints s) out n (rw (h, e, room)) p
+      same old (answerText (listed.numberOf l) (listed.placeOf l) (listed.positionOf l) (listingText s)) (sendPrints s) out n (rw (h, e, room)) p
 
   -- the lines, or the line of the listing's refusal
   pub read-is : (r : Reading) → isLong s ≡ false → length old ≡ 48000 → r ≡ readListing s (length old)
-      → Printed old (answerText (numberOf r) (placeOf r) (linesRead r (wordsOf s))) n out → Printed old (readPrints s) n out
+      → Printed old (answerText (numberOf r) (placeOf r) 0 (linesRead r (wordsOf s))) n out → Printed old (readPrints s) n out
   unfolding readPrints
   read-is r h room e p =
-      same old (answerText (numberOf r) (placeOf r) (linesRead r (wordsOf s))) (readPrints s) out n (rw (h, e, room)) p
+      same old (answerText (numberOf r) (placeOf r) 0 (linesRead r (wordsOf s))) (readPrints s) out n (rw (h, e, room)) p
 
 -- ---- the cases of an answer
 
@@ -77,13 +78,14 @@ module _ (s old : List ℕ) (h : isLong s ≡ false) {out : List ℕ} where
   pub send-written : (n : ℕ) → length old ≡ 46062 → Written n ≡ listedOf s (length old) → out ≡ over old (listingText s) → Printed old (sendPrints s) n out
   send-written n room e o = send-is s old (Written n) h room e (sym (listed-written s (length old) n (sym e) .2), o)
 
-  pub send-declined : (n place : ℕ) (why : Refusal) → length old ≡ 46062 → Declined why place ≡ listedOf s (length old) → Printed old (refusalLine (refusal.numberOf why) place) n out
+  pub send-declined : (n place : ℕ) (why : Refusal) → length old ≡ 46062 → Declined why place ≡ listedOf s (length old) → Printed old (refusalLine (refusal.numberOf why) place (refusal.positionOf why)) n out
       → Printed old (sendPrints s) n out
   send-declined n place why room e p =
       send-is s old (Declined why place) h room e
-      (same old (refusalLine (refusal.numberOf why) place) (answerText (refusal.numberOf why) place (listingText s)) out n (rw (ne-eqb (refusal.numberOf why) 0 (λ z. omega (arith, refused-number why .0)))) p)
+      (same old (refusalLine (refusal.numberOf why) place (refusal.positionOf why)) (answerText (refusal.numberOf why) place (refusal.positionOf why) (listingText s)) out n
+      (rw (ne-eqb (refusal.numberOf why) 0 (refused-not 0 refl why))) p)
 
-  pub send-full : (n : ℕ) → length old ≡ 46062 → NoRoom ≡ listedOf s (length old) → Printed old (refusalLine 10 0) n out → Printed old (sendPrints s) n out
+  pub send-full : (n : ℕ) → length old ≡ 46062 → NoRoom ≡ listedOf s (length old) → Printed old (refusalLine 10 0 0) n out → Printed old (sendPrints s) n out
   send-full n room e p = send-is s old NoRoom h room e p
 
   pub read-whole : (n pages lost orphans : ℕ) (changed : Changes) → length old ≡ 48000 → Read pages lost orphans changed n ≡ readListing s (length old)
@@ -91,7 +93,7 @@ module _ (s old : List ℕ) (h : isLong s ≡ false) {out : List ℕ} where
   read-whole n pages lost orphans changed room e o = read-is s old (Read pages lost orphans changed n) h room e (bytes-read s (length old) e, o)
 
   pub read-declined : (n : ℕ) (why : Fault) → length old ≡ 48000 → reading.Declined why ≡ readListing s (length old)
-      → Printed old (refusalLine (numberOf (reading.Declined why)) (placeOf (reading.Declined why))) n out → Printed old (readPrints s) n out
+      → Printed old (refusalLine (numberOf (reading.Declined why)) (placeOf (reading.Declined why)) 0) n out → Printed old (readPrints s) n out
   read-declined n (Malformed line) room e p = read-is s old (reading.Declined (Malformed line)) h room e p
   read-declined n (TooMany line) room e p = read-is s old (reading.Declined (TooMany line)) h room e p
   read-declined n (Unsynced batch) room e p = read-is s old (reading.Declined (Unsynced batch)) h room e p

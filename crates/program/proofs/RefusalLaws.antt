@@ -1,20 +1,22 @@
 -- The line of a refusal, part by part. Assumes nothing.
 use mathlib.Core.Path.{_≡_, refl, sym, ap, _∙_}
+use mathlib.Core.Bool.{true, false}
 use mathlib.Core.List.{List, [], _∷_, _++_, append-nil, append-assoc}
 use Prim.Native.Nat.{ℕ, zero, suc, _+_, _-_, _/_, _%_, _^_, _≤_, _<_}
 use native.Mathlib.Omega.{arith}
 use native.Mathlib.Numerals.{add-one}
 use native.Mathlib.Nat.{pow-le-pow-right}
 use mathlib.Core.Logic.{⊎-elim}
-use lib.ListN.{length, take, drop, length-append, length-drop, drop-of-length-le}
-use lib.Seq.{take-length}
-use lib.Dec.{ltb}
+use lib.ListN.{length, take, drop, take-append-drop, length-append, length-drop, drop-of-length-le}
+use lib.Seq.{take-length, length-take-le}
+use lib.Dec.{eqb, ltb}
 use borrow.Author.Tests.{lt-ltb, le-ltb}
 use Rattle.io.specs.Digits.{glyph, digits, Fewest}
 use Rattle.base.specs.Lists.{over}
+use Rattle.base.proofs.Bools.{either}
 use Rattle.base.proofs.ListLaws.{to-end, over-part, over-length}
 use Rattle.base.proofs.SearchLaws.{le-or-lt, least-is, least-only}
-use Rattle.program.specs.Prints.{decimalLength, decimal, refusedWord, placeWord, refusalLine}
+use Rattle.program.specs.Prints.{decimalLength, decimal, refusedWord, placeWord, positionPart, refusalLine}
 
 -- ---- decimal numbers
 
@@ -59,21 +61,51 @@ pub appended : (old new part : List ℕ) (at n : ℕ) {out next : List ℕ} → 
     → (next ≡ over old (new ++ part)) × (length (new ++ part) ≡ n)
 appended old new part at n e l q m = (q ∙ over-part old new part at (length part) e l refl, length-append new part ∙ rw (l, m))
 
+-- no part behind an index, and two of them
+pub no-part : (out : List ℕ) (at : ℕ) → out ≡ take at out ++ over (drop at out) []
+no-part out at = sym (take-append-drop at out)
+
+pub two-parts : (out p q : List ℕ) (at : ℕ) {mid next : List ℕ} {m n : ℕ} → at ≤ length out
+    → mid ≡ take at out ++ over (drop at out) p → m ≡ at + length p → next ≡ take m mid ++ over (drop m mid) q → n ≡ m + length q
+    → (n ≡ at + length (p ++ q)) × (next ≡ take at out ++ over (drop at out) (p ++ q))
+two-parts out p q at {mid} {next} {m} {n} h e em f fn =
+    let l = length-take-le at out h in
+    let start : out ≡ over out (take at out) = rw l (sym (take-append-drop at out)) in
+    let one = appended out (take at out) p at m start l e em in
+    let two = appended out (take at out ++ p) q m n (one .0) (one .1) f fn in (
+      omega (arith, length-append p q),
+      two .0 ∙ ap (over out) (append-assoc (take at out) p q) ∙ sym (over-part out (take at out) (p ++ q) at (length (p ++ q)) start l refl),
+    )
+
 -- the slice keeps its length
 pub kept-length : (old new : List ℕ) {out : List ℕ} → out ≡ over old new → length new ≤ length old → length out ≡ length old
 kept-length old new e h = ap length e ∙ over-length old new h
 
+position-short : (n c : ℕ) → length (positionPart n c) ≤ 21
+position-short n c =
+    ⊎-elim (λ (e : eqb n 6 ≡ true). rw e (omega (arith, decimal-short c))) (λ (e : eqb n 6 ≡ false). rw e (omega arith)) (either (eqb n 6))
+
 -- how long the parts are, with each one that is added
-pub parts-short : (n p : ℕ) → (length (refusedWord ++ decimal n) ≤ 28) × (length ((refusedWord ++ decimal n) ++ placeWord) ≤ 35) × (length (((refusedWord ++ decimal n) ++ placeWord) ++ decimal p) ≤ 55)
-parts-short n p =
+pub parts-short : (n p c : ℕ)
+    → (length (refusedWord ++ decimal n) ≤ 28)
+    × (length ((refusedWord ++ decimal n) ++ placeWord) ≤ 35)
+    × (length (((refusedWord ++ decimal n) ++ placeWord) ++ decimal p) ≤ 55)
+    × (length ((((refusedWord ++ decimal n) ++ placeWord) ++ decimal p) ++ positionPart n c) ≤ 76)
+parts-short n p c =
     let two : length (refusedWord ++ decimal n) ≡ 8 + length (decimal n) = length-append refusedWord (decimal n) in
     let three : length ((refusedWord ++ decimal n) ++ placeWord) ≡ length (refusedWord ++ decimal n) + 7 = length-append (refusedWord ++ decimal n) placeWord in
-    (omega (arith, decimal-short n), omega (arith, decimal-short n), omega (arith, decimal-short n, decimal-short p, length-append ((refusedWord ++ decimal n) ++ placeWord) (decimal p)))
+    let four = length-append ((refusedWord ++ decimal n) ++ placeWord) (decimal p) in
+    let five = length-append (((refusedWord ++ decimal n) ++ placeWord) ++ decimal p) (positionPart n c) in
+    let dn = decimal-short n in
+    let dp = decimal-short p in
+    (omega arith, omega arith, omega arith, omega (arith, position-short n c))
 
--- the five parts are the line
-pub whole : (n p : ℕ) → (((refusedWord ++ decimal n) ++ placeWord) ++ decimal p) ++ (10 ∷ []) ≡ refusalLine n p
+-- the six parts are the line
+pub whole : (n p c : ℕ) → ((((refusedWord ++ decimal n) ++ placeWord) ++ decimal p) ++ positionPart n c) ++ (10 ∷ []) ≡ refusalLine n p c
 unfolding refusalLine
-whole n p =
-    append-assoc ((refusedWord ++ decimal n) ++ placeWord) (decimal p) (10 ∷ [])
-    ∙ append-assoc (refusedWord ++ decimal n) placeWord (decimal p ++ (10 ∷ []))
-    ∙ append-assoc refusedWord (decimal n) (placeWord ++ (decimal p ++ (10 ∷ [])))
+whole n p c =
+    let end : List ℕ = positionPart n c ++ (10 ∷ []) in
+    append-assoc (((refusedWord ++ decimal n) ++ placeWord) ++ decimal p) (positionPart n c) (10 ∷ [])
+    ∙ append-assoc ((refusedWord ++ decimal n) ++ placeWord) (decimal p) end
+    ∙ append-assoc (refusedWord ++ decimal n) placeWord (decimal p ++ end)
+    ∙ append-assoc refusedWord (decimal n) (placeWord ++ (decimal p ++ end))

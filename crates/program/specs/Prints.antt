@@ -1,4 +1,4 @@
--- What the programs print for their standard input (document 01, "The two programs", and number 24 of its table).
+-- What the programs print for their standard input (document 01, "The two programs", and number 24 of its table; request R-1).
 use Prim.Native.Nat.{ℕ, suc, _^_}
 use mathlib.Core.Bool.{Bool, cond}
 use mathlib.Core.List.{List, [], _∷_, _++_}
@@ -27,13 +27,17 @@ refusedWord = 114 ∷ 101 ∷ 102 ∷ 117 ∷ 115 ∷ 101 ∷ 100 ∷ 32 ∷ []
 abbrev pub placeWord : List ℕ
 placeWord = 32 ∷ 112 ∷ 108 ∷ 97 ∷ 99 ∷ 101 ∷ 32 ∷ []
 
--- the line `refused N place P`
-unfoldable pub refusalLine : ℕ → ℕ → List ℕ
-refusalLine n p = refusedWord ++ (decimal n ++ (placeWord ++ (decimal p ++ (10 ∷ []))))
+-- what stands behind the place: with number 6 a space and the position, with every other number nothing
+abbrev pub positionPart : ℕ → ℕ → List ℕ
+positionPart n c = cond (eqb n 6) (32 ∷ decimal c) []
 
--- an answer with this number and place: its text where nothing is declined, else the line of the refusal
-abbrev pub answerText : ℕ → ℕ → List ℕ → List ℕ
-answerText n p text = cond (eqb n 0) text (refusalLine n p)
+-- the line `refused N place P`, or `refused 6 place P C`
+unfoldable pub refusalLine : ℕ → ℕ → ℕ → List ℕ
+refusalLine n p c = refusedWord ++ (decimal n ++ (placeWord ++ (decimal p ++ (positionPart n c ++ (10 ∷ [])))))
+
+-- an answer with this number, place and position: its text where nothing is declined, else the line of the refusal
+abbrev pub answerText : ℕ → ℕ → ℕ → List ℕ → List ℕ
+answerText n p c text = cond (eqb n 0) text (refusalLine n p c)
 
 -- an input of over 65,536 bytes: number 24
 abbrev pub isLong : List ℕ → Bool
@@ -41,13 +45,14 @@ isLong input = ltb 65536 (length input)
 
 -- which comes before all others
 abbrev pub unlessLong : List ℕ → List ℕ → List ℕ
-unlessLong input text = cond (isLong input) (refusalLine 24 0) text
+unlessLong input text = cond (isLong input) (refusalLine 24 0 0) text
 
 -- the sending program, which has room for 46,062 bytes: a job's listing
 unfoldable pub sendPrints : List ℕ → List ℕ
-sendPrints s = unlessLong s (answerText (listed.numberOf (listedOf s 46062)) (listed.placeOf (listedOf s 46062)) (listingText s))
+sendPrints s =
+    unlessLong s (answerText (listed.numberOf (listedOf s 46062)) (listed.placeOf (listedOf s 46062)) (listed.positionOf (listedOf s 46062)) (listingText s))
 
--- the reading programs, which have room for 48,000 bytes: a listing's page lines in slot order
+-- the reading programs, which have room for 48,000 bytes: a listing's page lines in slot order; its refusals have no position
 unfoldable pub readPrints : List ℕ → List ℕ
 readPrints s =
-    unlessLong s (answerText (numberOf (readListing s 48000)) (placeOf (readListing s 48000)) (linesRead (readListing s 48000) (wordsOf s)))
+    unlessLong s (answerText (numberOf (readListing s 48000)) (placeOf (readListing s 48000)) 0 (linesRead (readListing s 48000) (wordsOf s)))

@@ -6,7 +6,7 @@ ghost use Prim.Native.Nat.{_+_, _≤_};
 ghost use lib.ListN.{length, take, drop};
 ghost use Rattle.io.specs.Counts.{Counts};
 ghost use Rattle.base.specs.Lists.{over};
-ghost use Rattle.program.specs.Prints.{isLong, decimal, refusalLine, sendPrints, readPrints};
+ghost use Rattle.program.specs.Prints.{isLong, decimal, positionPart, refusalLine, sendPrints, readPrints};
 use codeword::Engine;
 use job_listing::Listed;
 use libc::STDIN_FILENO;
@@ -78,16 +78,30 @@ fn append_decimal(out: &mut [u8], at: usize, number: u64) -> usize
     append(out, at, &digits[..n])
 }
 
+// The same with what stands behind the place of a refusal.
+fn append_position(out: &mut [u8], at: usize, number: u32, position: usize) -> usize
+    requires { ⌜ at + 21 ≤ length (now out) ⌝ }
+    ensures { λ r. ⌜ r ≡ at + length (positionPart number position) ⌝ }
+    ensures { λ _. ⌜ now (out .exit) ≡ take at (now (out .entry)) ++ over (drop at (now (out .entry))) (positionPart number position) ⌝ }
+{
+    if number != 6 {
+        return at;
+    }
+    let n = append(out, at, b" ");
+    append_decimal(out, n, position as u64)
+}
+
 // Writes the line of a refusal over the front of a slice, and answers how many bytes it has.
-fn write_refusal(number: u32, place: usize, out: &mut [u8]) -> usize
-    requires { ⌜ 64 ≤ length (now out) ⌝ }
-    ensures { λ r. ⌜ r ≡ length (refusalLine number place) ⌝ }
-    ensures { λ _. ⌜ now (out .exit) ≡ over (now (out .entry)) (refusalLine number place) ⌝ }
+fn write_refusal(number: u32, place: usize, position: usize, out: &mut [u8]) -> usize
+    requires { ⌜ 80 ≤ length (now out) ⌝ }
+    ensures { λ r. ⌜ r ≡ length (refusalLine number place position) ⌝ }
+    ensures { λ _. ⌜ now (out .exit) ≡ over (now (out .entry)) (refusalLine number place position) ⌝ }
 {
     let mut n = append(out, 0, b"refused ");
     n = append_decimal(out, n, number as u64);
     n = append(out, n, b" place ");
     n = append_decimal(out, n, place as u64);
+    n = append_position(out, n, number, position);
     append(out, n, b"\n")
 }
 
@@ -98,15 +112,16 @@ pub fn send(input: &[u8], out: &mut [u8; 46062]) -> usize
     ensures { λ r. ⌜ Counts r (now (out .exit)) ⌝ }
 {
     if is_long(input) {
-        return write_refusal(24, 0, out);
+        return write_refusal(24, 0, 0, out);
     }
     let answer = job_listing::list_job(input, out);
     let number = job_listing::number(answer);
     let place = job_listing::place(answer);
+    let position = job_listing::position(answer);
     match answer {
         Listed::Written(n) => n,
-        Listed::Declined { why: _, place: _ } => write_refusal(number, place, out),
-        Listed::NoRoom => write_refusal(number, place, out),
+        Listed::Declined { why: _, place: _ } => write_refusal(number, place, position, out),
+        Listed::NoRoom => write_refusal(number, place, position, out),
     }
 }
 
@@ -117,7 +132,7 @@ pub fn read(engine: Engine, input: &[u8], out: &mut [u8; 48000]) -> usize
     ensures { λ r. ⌜ Counts r (now (out .exit)) ⌝ }
 {
     if is_long(input) {
-        return write_refusal(24, 0, out);
+        return write_refusal(24, 0, 0, out);
     }
     let answer = reader::read_listing(engine, input, out);
     let number = reader::number(answer);
@@ -130,6 +145,6 @@ pub fn read(engine: Engine, input: &[u8], out: &mut [u8; 48000]) -> usize
             changed: _,
             bytes,
         } => bytes,
-        Reading::Declined(_) => write_refusal(number, place, out),
+        Reading::Declined(_) => write_refusal(number, place, 0, out),
     }
 }

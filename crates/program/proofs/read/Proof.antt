@@ -1,5 +1,5 @@
 -- `program::read` meets its contract. Assumes nothing.
-use mathlib.Core.Path.{_≡_, sym, ap, _∙_}
+use mathlib.Core.Path.{_≡_, refl, sym, ap, _∙_}
 use lib.ListN.{length}
 use borrow.Author.Needs.{needs}
 use Rattle.base.specs.Lists.{over}
@@ -63,7 +63,7 @@ returns-3 c =
     let told = sym (c .before .before .enum-told .given .1) in
     counted (a .out .now) (readPrints (a .input .now))
     (read-declined (a .input .now) (a .out .now) (sym (v .before .before .before .is-long .ensures) ∙ v .before .before .if1 .left) _ _ (room v) (told ∙ v .read-listing .ensures .0)
-    (line-as (a .out .now) _ _ (c .before .before .before .before .before .number .ensures ∙ ap numberOf (sym told)) (c .before .before .before .before .place .ensures ∙ ap placeOf (sym told)) (left v (sym told)) (c .write-refusal2 .ensures)))
+    (line-as (a .out .now) _ _ _ (c .before .before .before .before .before .number .ensures ∙ ap numberOf (sym told)) (c .before .before .before .before .place .ensures ∙ ap placeOf (sym told)) refl (left v (sym told)) (c .write-refusal2 .ensures)))
 
 pub read-spec : {M : Type 1} → statement M
 read-spec =

@@ -39,6 +39,9 @@ number-requires c κs = search needs
 place-requires : tie.Need-place-requires
 place-requires c κs = search needs
 
+position-requires : tie.Need-position-requires
+position-requires c κs = search needs
+
 enum-known-answer : tie.Need-enum-known-answer
 enum-known-answer c = search needs
 
@@ -56,29 +59,29 @@ write-refusal-requires-3 c κs = search needs
 
 returns-2 : tie.Need-returns-2
 returns-2 c =
-    let v = c .before .before .before .before .before in
-    let a = c .before .before .before .before .before .before .before .before .before .before .args in
+    let v = c .before .before .before .before .before .before in
+    let a = c .before .before .before .before .before .before .before .before .before .before .before .args in
     let told = sym (c .before .answer .given .1) in
     counted (a .out .now) (sendPrints (a .input .now))
     (send-written (a .input .now) (a .out .now) (sym (v .before .before .before .is-long .ensures) ∙ v .before .before .if1 .left) _ (room v) (told ∙ v .list-job .ensures .0) (left v (sym told)))
 
 returns-3 : tie.Need-returns-3
 returns-3 c =
-    let v = c .before .before .before .before .before .before in
-    let a = c .before .before .before .before .before .before .before .before .before .before .before .args in
+    let v = c .before .before .before .before .before .before .before in
+    let a = c .before .before .before .before .before .before .before .before .before .before .before .before .args in
     let told = sym (c .before .before .enum-told .given .1) in
     counted (a .out .now) (sendPrints (a .input .now))
     (send-declined (a .input .now) (a .out .now) (sym (v .before .before .before .is-long .ensures) ∙ v .before .before .if1 .left) _ _ _ (room v) (told ∙ v .list-job .ensures .0)
-    (line-as (a .out .now) _ _ (c .before .before .before .before .before .number .ensures ∙ ap listed.numberOf (sym told)) (c .before .before .before .before .place .ensures ∙ ap listed.placeOf (sym told)) (left v (sym told)) (c .write-refusal2 .ensures)))
+    (line-as (a .out .now) _ _ _ (c .before .before .before .before .before .before .number .ensures ∙ ap listed.numberOf (sym told)) (c .before .before .before .before .before .place .ensures ∙ ap listed.placeOf (sym told)) (c .before .before .before .before .position .ensures ∙ ap listed.positionOf (sym told)) (left v (sym told)) (c .write-refusal2 .ensures)))
 
 returns-4 : tie.Need-returns-4
 returns-4 c =
-    let v = c .before .before .before .before .before .before in
-    let a = c .before .before .before .before .before .before .before .before .before .before .before .args in
+    let v = c .before .before .before .before .before .before .before in
+    let a = c .before .before .before .before .before .before .before .before .before .before .before .before .args in
     let told = sym (c .before .before .enum-told2 .given .1) in
     counted (a .out .now) (sendPrints (a .input .now))
     (send-full (a .input .now) (a .out .now) (sym (v .before .before .before .is-long .ensures) ∙ v .before .before .if1 .left) _ (room v) (told ∙ v .list-job .ensures .0)
-    (line-as (a .out .now) _ _ (c .before .before .before .before .before .number .ensures ∙ ap listed.numberOf (sym told)) (c .before .before .before .before .place .ensures ∙ ap listed.placeOf (sym told)) (left v (sym told)) (c .write-refusal3 .ensures)))
+    (line-as (a .out .now) _ _ _ (c .before .before .before .before .before .before .number .ensures ∙ ap listed.numberOf (sym told)) (c .before .before .before .before .before .place .ensures ∙ ap listed.placeOf (sym told)) (c .before .before .before .before .position .ensures ∙ ap listed.positionOf (sym told)) (left v (sym told)) (c .write-refusal3 .ensures)))
 
 pub send-spec : {M : Type 1} → statement M
 send-spec =
@@ -90,6 +93,7 @@ send-spec =
     list-job-requires
     number-requires
     place-requires
+    position-requires
     enum-known-answer
     enum-told
     write-refusal-requires-2
