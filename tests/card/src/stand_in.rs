@@ -175,8 +175,8 @@ unsafe extern "C" fn card_send(
 
 fn report(result: Result<send::Report, Refusal>) -> Report {
     match result {
-        Ok(send::Report { batches, words }) => Report { place: 0, number: 0, batches, words },
-        Err(Refusal { number, place }) => Report { place, number, batches: 0, words: 0 },
+        Ok(send::Report { batches, words }) => Report { place: 0, position: 0, number: 0, batches, words },
+        Err(Refusal { number, place, position }) => Report { place, position, number, batches: 0, words: 0 },
     }
 }
 
@@ -184,8 +184,8 @@ fn report(result: Result<send::Report, Refusal>) -> Report {
 unsafe extern "C" fn card_list(job: *const u8, job_length: usize, out: *mut u8, out_length: usize) -> Bytes {
     let job = taken(from_raw_parts(job, job_length));
     match send::list(&job, from_raw_parts_mut(out, out_length)) {
-        Ok(bytes) => Bytes { place: 0, bytes, number: 0 },
-        Err(Refusal { number, place }) => Bytes { place, bytes: 0, number },
+        Ok(bytes) => Bytes { place: 0, position: 0, bytes, number: 0 },
+        Err(Refusal { number, place, position }) => Bytes { place, position, bytes: 0, number },
     }
 }
 
@@ -297,7 +297,7 @@ fn reading(result: Result<reader::Reading, Refusal>, words: impl FnOnce() -> Vec
             let orphans = if is("orphans-not-counted") { 0 } else { orphans };
             Reading { place: 0, bytes, number: 0, pages, lost, orphans, changed: summed(words, changed) }
         }
-        Err(Refusal { number, mut place }) => {
+        Err(Refusal { number, mut place, .. }) => {
             if is("place-of-21") && number == 21 {
                 place = place.saturating_sub(1);
             }
@@ -311,11 +311,11 @@ fn reading(result: Result<reader::Reading, Refusal>, words: impl FnOnce() -> Vec
 unsafe extern "C" fn card_start(job: *const u8, job_length: usize, state: *mut Sender) -> steps::Refusal {
     let pages = match job::parse(&taken(from_raw_parts(job, job_length))) {
         Ok(pages) => pages,
-        Err(Refusal { number, place }) => {
+        Err(Refusal { number, place, position }) => {
             if is("start-writes-when-declined") {
                 (*state).cursor.message = 0;
             }
-            return steps::Refusal { place, number };
+            return steps::Refusal { place, position, number };
         }
     };
     let mut next = Sender::boxed();
@@ -334,7 +334,7 @@ unsafe extern "C" fn card_start(job: *const u8, job_length: usize, state: *mut S
     }
     next.words[..words.len()].copy_from_slice(&words);
     *state = *next;
-    steps::Refusal { place: 0, number: 0 }
+    steps::Refusal::NONE
 }
 
 /// Whether number 11 is given.
