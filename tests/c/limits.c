@@ -131,7 +131,6 @@ static const struct declined jobs[] = {
     {"000009 0\n200000 0\n", CARD_REFUSED_IDENTITY_TOO_LARGE, 2},
     {"1EA270 0\n", CARD_REFUSED_IDENTITY_RESERVED, 1},
     {"000009 6\n", CARD_REFUSED_KIND, 1},
-    {"000009 4 3120\n", CARD_REFUSED_SPACE_AT_END, 1},
     {"", CARD_REFUSED_EMPTY_JOB, 0},
 };
 

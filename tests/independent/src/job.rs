@@ -60,13 +60,13 @@ impl Page {
     /// The page of the line at a place, which comes without its newline, or what is wrong with it.
     fn parse(line: &[u8], place: usize) -> Result<Page, Refusal> {
         let fault = |number| Refusal::new(number, place);
-        let (identity, kind, pairs) = split(line).ok_or(fault(1))?;
+        let (identity, kind, pairs) = split(line).ok_or_else(|| fault(1))?;
         if pairs.len() % 2 != 0 {
             return Err(fault(1));
         }
         let mut text = Vec::with_capacity(pairs.len() / 2);
         for pair in pairs.chunks_exact(2) {
-            text.push(number(pair).ok_or(fault(1))? as u8);
+            text.push(number(pair).ok_or_else(|| fault(1))? as u8);
         }
         if identity > 0x1F_FFFF {
             return Err(fault(2));
@@ -80,7 +80,12 @@ impl Page {
         if let Some(number) = length_fault(kind, text.len()) {
             return Err(fault(number));
         }
-        if let Some(before) = text.iter().position(|&byte| !has_character(kind, byte)) {
+        let before_bad = match kind {
+            NUMERIC => text.iter().position(|&byte| text::numeric_value(byte).is_none()),
+            ALPHANUMERIC => text.iter().position(|&byte| !text::is_alphanumeric(byte)),
+            _ => None,
+        };
+        if let Some(before) = before_bad {
             return Err(Refusal { position: before + 1, ..fault(6) });
         }
         if kind == NUMERIC && text.last() == Some(&b' ') {
@@ -107,15 +112,6 @@ fn length_fault(kind: u32, length: usize) -> Option<u32> {
     match length {
         0 => Some(13),
         _ => (length > most).then_some(14),
-    }
-}
-
-/// Whether texts of a kind may have this character.
-fn has_character(kind: u32, byte: u8) -> bool {
-    match kind {
-        NUMERIC => text::numeric_value(byte).is_some(),
-        ALPHANUMERIC => text::is_alphanumeric(byte),
-        _ => false,
     }
 }
 
