@@ -60,14 +60,9 @@ impl Page {
     /// The page of the line at a place, which comes without its newline, or what is wrong with it.
     fn parse(line: &[u8], place: usize) -> Result<Page, Refusal> {
         let fault = |number| Refusal::new(number, place);
-        let (identity, kind, pairs) = split(line).ok_or_else(|| fault(1))?;
-        if pairs.len() % 2 != 0 {
+        let Some((identity, kind, text)) = split(line) else {
             return Err(fault(1));
-        }
-        let mut text = Vec::with_capacity(pairs.len() / 2);
-        for pair in pairs.chunks_exact(2) {
-            text.push(number(pair).ok_or_else(|| fault(1))? as u8);
-        }
+        };
         if identity > 0x1F_FFFF {
             return Err(fault(2));
         }
@@ -115,18 +110,31 @@ fn length_fault(kind: u32, length: usize) -> Option<u32> {
     }
 }
 
-/// Identity, kind and the digits of the text; none are there if the line has no second space.
-fn split(line: &[u8]) -> Option<(u32, u32, &[u8])> {
+/// Identity, kind and text; no text is there if the line has no second space.
+fn split(line: &[u8]) -> Option<(u32, u32, Vec<u8>)> {
     if line.len() < 8 || line[6] != b' ' {
         return None;
     }
     let identity = number(&line[..6])?;
     let kind = digit_value(line[7])?;
-    match &line[8..] {
-        [] => Some((identity, kind, &[])),
-        [b' ', digits @ ..] if !digits.is_empty() => Some((identity, kind, digits)),
-        _ => None,
+    let text = match &line[8..] {
+        [] => Vec::new(),
+        [b' ', digits @ ..] if !digits.is_empty() => characters(digits)?,
+        _ => return None,
+    };
+    Some((identity, kind, text))
+}
+
+/// The characters that pairs of digits spell.
+fn characters(digits: &[u8]) -> Option<Vec<u8>> {
+    if digits.len() % 2 != 0 {
+        return None;
     }
+    let mut text = Vec::with_capacity(digits.len() / 2);
+    for pair in digits.chunks_exact(2) {
+        text.push(number(pair)? as u8);
+    }
+    Some(text)
 }
 
 /// The pages of a job, or the first fault.
