@@ -20,9 +20,9 @@
 #include <stddef.h>
 #include <stdint.h>
 
-/* 1.0.0, as 10000 * first + 100 * second + third. The first goes up where a caller has to change or only to be compiled again, as when
+/* 2.0.0, as 10000 * first + 100 * second + third. The first goes up where a caller has to change or only to be compiled again, as when
  * a struct grows; the second where something is added. The archive and the header of one commit belong together. */
-#define SPUGGENOR_VERSION 10000
+#define SPUGGENOR_VERSION 20000
 
 #ifdef __cplusplus
 extern "C" {
@@ -45,15 +45,21 @@ extern "C" {
 #define CARD_LINES_BYTES 48000      /* bytes of the page lines of 300 batches */
 #define CARD_MESSAGE_WORDS 4032     /* message codewords of a job */
 
-/* Why work is declined, and the place that comes with the number. Of a job the first faulty line decides, and in it the lowest of 1 to
- * 7, but a 49th line is 8 whatever it holds; then 9, then 10. Of a listing the first line that gives 21 or 23, then the first 22, then
- * 10; of words 21, 23, 22, 10. (The programs have one number more, 24.) */
+/* Why work is declined, and the place that comes with the number. A job's own numbers, 9 the last of them, stand here in the order of
+ * the tests. The first faulty line decides, and in it the first of 1, 2, 3, 4, then 12, 13 or 14, then 6, 7; but a 49th line is 8
+ * whatever it holds; then 9, then 10. Of a listing the first line that gives 21 or 23, then the first 22, then 10; of words 21, 23,
+ * 22, 10. (The programs have one number more, 24.)
+ *
+ * A call that takes a job also answers a position: with number 6 that of the first bad character of the text, counted in characters
+ * from 1; 0 with every other number and where nothing is declined. */
 #define CARD_REFUSED_LINE_FORM 1            /* line: it is not written as a page line */
 #define CARD_REFUSED_IDENTITY_TOO_LARGE 2   /* line: over 1FFFFF */
 #define CARD_REFUSED_IDENTITY_RESERVED 3    /* line: 1EA270 to 1EA277 or 1F3480 to 1F3487 */
 #define CARD_REFUSED_KIND 4                 /* line: none of 0 to 5 */
-#define CARD_REFUSED_TEXT_LENGTH 5          /* line: wrong for the kind */
-#define CARD_REFUSED_CHARACTER 6            /* line: one that the kind does not have */
+#define CARD_REFUSED_TONE_WITH_TEXT 12      /* line: kind 0 to 3 has a text */
+#define CARD_REFUSED_NO_TEXT 13             /* line: kind 4 or 5 has none */
+#define CARD_REFUSED_TEXT_TOO_LONG 14       /* line: over 60 characters for kind 4, over 240 for kind 5 */
+#define CARD_REFUSED_CHARACTER 6            /* line, and a position: a character that the kind does not have */
 #define CARD_REFUSED_SPACE_AT_END 7         /* line: a numeric text ends in a space */
 #define CARD_REFUSED_TOO_MANY_PAGES 8       /* 49: a 49th line */
 #define CARD_REFUSED_EMPTY_JOB 9            /* 0: no bytes */
@@ -86,25 +92,27 @@ struct card_word card_correct_slowly(uint32_t word);
 
 struct card_report {
     size_t place;
+    size_t position;    /* with number 6 alone, else 0 */
     uint32_t number;
     uint32_t batches;
     uint32_t words;     /* CARD_PREAMBLE_WORDS + 17 * batches */
 };
 
 /* A job's words and address slots. Writes the transmission, preamble first, over the front of words, and the slot of each page's
- * address, in job order, over the front of slots. Numbers 1 to 9, then 10 where words or slots is too short. CARD_WORDS words and
- * CARD_PAGES slots suffice. */
+ * address, in job order, over the front of slots. The job's own numbers, then 10 where words or slots is too short. CARD_WORDS words
+ * and CARD_PAGES slots suffice. */
 struct card_report card_send(const uint8_t *job, size_t job_length,
                              uint32_t *words, size_t words_length,
                              uint32_t *slots, size_t slots_length);
 
 struct card_bytes {
     size_t place;
+    size_t position;    /* with number 6 alone, else 0 */
     size_t bytes;       /* how many are written */
     uint32_t number;
 };
 
-/* A job's listing, over the front of out. Numbers 1 to 9, then 10 where out is too short. CARD_LISTING_BYTES suffice. */
+/* A job's listing, over the front of out. The job's own numbers, then 10 where out is too short. CARD_LISTING_BYTES suffice. */
 struct card_bytes card_list(const uint8_t *job, size_t job_length, uint8_t *out, size_t out_length);
 
 /* ---- reading */
@@ -173,10 +181,11 @@ CARD_ASSERT(offsetof(struct card_sender, words) == 500);
 
 struct card_refusal {
     size_t place;
+    size_t position;    /* with number 6 alone, else 0 */
     uint32_t number;
 };
 
-/* Makes the state from which the steps of a job start. What the state held before does not matter. Numbers 1 to 9. */
+/* Makes the state from which the steps of a job start. What the state held before does not matter. The job's own numbers. */
 struct card_refusal card_start(const uint8_t *job, size_t job_length, struct card_sender *state);
 
 struct card_step_answer {

@@ -1,4 +1,4 @@
-/* A job sent whole, sent again word by word, and read back with some wrong bits; one word corrected by both engines.
+/* A job declined, then one sent whole, sent again word by word, and read back with some wrong bits; one word corrected by both engines.
  *
  * Build and run it in the repository's folder, once `rt staticlib card` has made the archive:
  *     gcc -Wall -Wextra tests/c/example.c -Iinclude target/staticlib/libcard.a -o target/example && target/example
@@ -13,6 +13,20 @@ static struct card_sender state;
 
 /* "12" to pager 000009, "HELLO" to pager 000010, a tone with function 2 to pager 00000F */
 static const char job[] = "000009 4 3132\n000010 5 48454C4C4F\n00000F 2\n";
+
+/* the same with a mistake: the third character of the first text is no numeric one */
+static const char mistaken[] = "000009 4 313241\n000010 5 48454C4C4F\n00000F 2\n";
+
+/* whether work is declined; says why, with the position where the number has one */
+static int refused(uint32_t number, size_t place, size_t position) {
+    if (number == 0)
+        return 0;
+    printf("refused %u place %lu", number, (unsigned long)place);
+    if (number == CARD_REFUSED_CHARACTER)
+        printf(" %lu", (unsigned long)position);
+    printf("\n");
+    return 1;
+}
 
 /* corrects a word by both engines, which must agree */
 static int corrected(uint32_t word) {
@@ -29,18 +43,17 @@ int main(void) {
     const uint8_t *text = (const uint8_t *)job;
     size_t length = strlen(job);
 
-    struct card_report sent = card_send(text, length, words, CARD_WORDS, slots, CARD_PAGES);
-    if (sent.number != 0) {
-        printf("refused %u place %zu\n", sent.number, sent.place);
+    struct card_report sent = card_send((const uint8_t *)mistaken, strlen(mistaken), words, CARD_WORDS, slots, CARD_PAGES);
+    if (!refused(sent.number, sent.place, sent.position))
         return 1;
-    }
+    sent = card_send(text, length, words, CARD_WORDS, slots, CARD_PAGES);
+    if (refused(sent.number, sent.place, sent.position))
+        return 1;
     printf("%u batches, %u words, address slots %u %u %u\n", sent.batches, sent.words, slots[0], slots[1], slots[2]);
 
     struct card_refusal refusal = card_start(text, length, &state);
-    if (refusal.number != 0) {
-        printf("refused %u place %zu\n", refusal.number, refusal.place);
+    if (refused(refusal.number, refusal.place, refusal.position))
         return 1;
-    }
     uint32_t steps = 0;
     for (;;) {
         struct card_step_answer next = card_step(&state);
@@ -68,10 +81,8 @@ int main(void) {
     if (!corrected(words[CARD_PREAMBLE_WORDS + 1]))
         return 1;
     struct card_reading read = card_read_words(words + CARD_PREAMBLE_WORDS, sent.words - CARD_PREAMBLE_WORDS, lines, CARD_LINES_BYTES);
-    if (read.number != 0) {
-        printf("refused %u place %zu\n", read.number, read.place);
+    if (refused(read.number, read.place, 0))
         return 1;
-    }
     printf("%u pages, %u lost, %u orphans\n", read.pages, read.lost, read.orphans);
     printf("%u bits changed in the slots, %u in the syncs\n", read.changed.slots, read.changed.syncs);
     fwrite(lines, 1, read.bytes, stdout);

@@ -15,11 +15,18 @@ CARD_ASSERT(sizeof(struct card_word) == 12 && offsetof(struct card_word, changed
 CARD_ASSERT(sizeof(struct card_changes) == 8 && offsetof(struct card_changes, syncs) == 4);
 CARD_ASSERT(sizeof(struct card_reading) == 40 && offsetof(struct card_reading, changed) == 32);
 
+/* the answers that have a position */
+CARD_ASSERT(sizeof(struct card_report) == 32 && offsetof(struct card_report, position) == 8 && offsetof(struct card_report, number) == 16);
+CARD_ASSERT(sizeof(struct card_bytes) == 32 && offsetof(struct card_bytes, position) == 8 && offsetof(struct card_bytes, number) == 24);
+CARD_ASSERT(sizeof(struct card_refusal) == 24 && offsetof(struct card_refusal, position) == 8 && offsetof(struct card_refusal, number) == 16);
+
 /* the counts of a reading that is declined */
 #define ALL_ZERO(d) ((d).bytes == 0 && (d).pages == 0 && (d).lost == 0 && (d).orphans == 0 && (d).changed.slots == 0 && (d).changed.syncs == 0)
 
 /* "12" to 000009, then "123456", which takes two message codewords, to 00000F; the first line alone is 14 bytes */
 static const uint8_t job[] = "000009 4 3132\n00000F 4 313233343536\n";
+/* line 2 has its first bad character at position 3 */
+static const uint8_t bad_character[] = "000009 0\n000009 4 31322A2A\n";
 static struct card_sender state, kept;
 static uint32_t words[CARD_WORDS], slots[CARD_PAGES + 1];
 static uint8_t out[CARD_LISTING_BYTES];
@@ -35,7 +42,7 @@ static uint8_t out[CARD_LISTING_BYTES];
 static void start(void) {
     memset(&state, 0xFF, sizeof state);
     struct card_refusal r = card_start(job, sizeof job - 1, &state);
-    EXPECT(r.place == 0 && r.number == 0);
+    EXPECT(r.place == 0 && r.position == 0 && r.number == 0);
     EXPECT(state.cursor.slot == 0 && state.cursor.page == 0 && state.cursor.word == 0 && state.cursor.preamble == 18);
     EXPECT(state.cursor.synced == 0 && state.cursor.running == 0 && state.cursor.message == 0);
     EXPECT(state.pages.count == 2 && state.pages.addresses[0] == 0x000026EC && state.pages.addresses[2] == 0);
@@ -44,8 +51,8 @@ static void start(void) {
     EXPECT(state.pages.frames[0] == 1 && state.pages.frames[1] == 7 && state.pages.frames[47] == 0);
     EXPECT(state.sent[0] == 0 && state.sent[47] == 0 && state.words[0] == 0xC2199DEA && state.words[3] == 0 && state.words[4031] == 0);
     memcpy(&kept, &state, sizeof state);
-    r = card_start((const uint8_t *)"000009 0\n200000 0\n", 18, &state);
-    EXPECT(r.place == 2 && r.number == 2 && memcmp(&kept, &state, sizeof state) == 0);
+    r = card_start(bad_character, sizeof bad_character - 1, &state);
+    EXPECT(r.place == 2 && r.position == 3 && r.number == 6 && memcmp(&kept, &state, sizeof state) == 0);
 }
 
 /* number 11 at each limit */
@@ -95,13 +102,16 @@ static void single_words(const struct engine *by) {
 static void sending(void) {
     slots[2] = 77; words[35] = 78;
     struct card_report s = card_send(job, 14, words, 35, slots, 1);
-    EXPECT(s.place == 0 && s.number == 0 && s.batches == 1 && s.words == 35 && slots[0] == 2 && words[21] == 0x000026EC && words[35] == 78);
+    EXPECT(s.place == 0 && s.position == 0 && s.number == 0 && s.batches == 1 && s.words == 35);
+    EXPECT(slots[0] == 2 && words[21] == 0x000026EC && words[35] == 78);
     s = card_send(job, 14, words, 34, slots, 1);
-    EXPECT(s.place == 0 && s.number == 10 && s.batches == 0 && s.words == 0);
-    s = card_send(job, 13, words, 35, slots, 1);
-    EXPECT(s.place == 1 && s.number == 1 && s.batches == 0 && s.words == 0);
-    struct card_bytes l = card_list(job, 14, out, sizeof out);
-    EXPECT(l.place == 0 && l.number == 0 && l.bytes == 315);
+    EXPECT(s.place == 0 && s.position == 0 && s.number == 10 && s.batches == 0 && s.words == 0);
+    s = card_send(bad_character, sizeof bad_character - 1, words, 35, slots, 2);
+    EXPECT(s.place == 2 && s.position == 3 && s.number == 6 && s.batches == 0 && s.words == 0);
+    struct card_bytes l = card_list(bad_character, sizeof bad_character - 1, out, sizeof out);
+    EXPECT(l.place == 2 && l.position == 3 && l.number == 6 && l.bytes == 0);
+    l = card_list(job, 14, out, sizeof out);
+    EXPECT(l.place == 0 && l.position == 0 && l.number == 0 && l.bytes == 315);
 }
 
 /* of the words and the listing that were sent */

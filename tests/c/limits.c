@@ -89,7 +89,7 @@ static void most_message_words(void) {
     EXPECT(memcmp(again, words, sizeof *words * s.words) == 0 && card_step(&state).done == 1);
     length = pages(CARD_PAGES + 1, 240);
     struct card_refusal r = card_start(job, length, &state);
-    EXPECT(r.number == CARD_REFUSED_TOO_MANY_PAGES && r.place == 49);
+    EXPECT(r.number == CARD_REFUSED_TOO_MANY_PAGES && r.place == 49 && r.position == 0);
 }
 
 /* the most that can be read, and the most that it prints */
@@ -108,6 +108,19 @@ static void longest_reading(const struct engine *by) {
     EXPECT(d.number == CARD_REFUSED_BATCHES_FORM && d.place == 9 + 9 * 300);
 }
 
+/* each call that takes a job answers this number, place and position */
+static void answered(const uint8_t *text, size_t length, uint32_t number, size_t place, size_t position) {
+    struct card_report s = card_send(text, length, words, CARD_WORDS, slots, CARD_PAGES);
+    struct card_bytes l = card_list(text, length, listing, CARD_LISTING_BYTES);
+    struct card_refusal r = card_start(text, length, &state);
+    int same = s.number == number && s.place == place && s.position == position && l.number == number && l.place == place
+        && l.position == position && r.number == number && r.place == place && r.position == position;
+    if (!same) {
+        printf("not %u %u %u:\n%.*s", number, (unsigned)place, (unsigned)position, (int)length, (const char *)text);
+        wrong = 1;
+    }
+}
+
 struct declined {
     const char *job;
     uint32_t number;
@@ -118,23 +131,78 @@ static const struct declined jobs[] = {
     {"000009 0\n200000 0\n", CARD_REFUSED_IDENTITY_TOO_LARGE, 2},
     {"1EA270 0\n", CARD_REFUSED_IDENTITY_RESERVED, 1},
     {"000009 6\n", CARD_REFUSED_KIND, 1},
-    {"000009 0 31\n", CARD_REFUSED_TEXT_LENGTH, 1},
-    {"000009 4 41\n", CARD_REFUSED_CHARACTER, 1},
-    {"000009 4 3120\n", CARD_REFUSED_SPACE_AT_END, 1},
     {"", CARD_REFUSED_EMPTY_JOB, 0},
 };
 
-/* each number that a job can be declined by, from each call that takes one */
+/* what has nothing to do with a text's length and characters; most_message_words has a 49th line */
 static void declined_jobs(void) {
-    for (size_t i = 0; i < sizeof jobs / sizeof *jobs; i++) {
-        const uint8_t *text = (const uint8_t *)jobs[i].job;
-        size_t length = strlen(jobs[i].job);
-        struct card_report s = card_send(text, length, words, CARD_WORDS, slots, CARD_PAGES);
-        struct card_bytes l = card_list(text, length, listing, CARD_LISTING_BYTES);
-        struct card_refusal r = card_start(text, length, &state);
-        EXPECT(s.number == jobs[i].number && s.place == jobs[i].place);
-        EXPECT(l.number == jobs[i].number && l.place == jobs[i].place);
-        EXPECT(r.number == jobs[i].number && r.place == jobs[i].place);
+    for (size_t i = 0; i < sizeof jobs / sizeof *jobs; i++)
+        answered((const uint8_t *)jobs[i].job, strlen(jobs[i].job), jobs[i].number, jobs[i].place, 0);
+}
+
+/* a page with so many characters: bad ones at up to two positions (0 is none), the first one first, and perhaps a space as the last */
+struct text {
+    int kind, characters, bad, also_bad, ends_in_space;
+    uint32_t number;
+};
+static const struct text texts[] = {
+    {0, 0, 0, 0, 0, 0},
+    {0, 1, 0, 0, 0, CARD_REFUSED_TONE_WITH_TEXT},
+    {1, 1, 1, 0, 0, CARD_REFUSED_TONE_WITH_TEXT},
+    {2, 61, 0, 0, 1, CARD_REFUSED_TONE_WITH_TEXT},
+    {3, 0, 0, 0, 0, 0},
+    {3, 241, 1, 241, 0, CARD_REFUSED_TONE_WITH_TEXT},
+    {4, 0, 0, 0, 0, CARD_REFUSED_NO_TEXT},
+    {4, 1, 0, 0, 0, 0},
+    {4, 59, 0, 0, 0, 0},
+    {4, 60, 0, 0, 0, 0},
+    {4, 61, 0, 0, 0, CARD_REFUSED_TEXT_TOO_LONG},
+    {4, 61, 1, 61, 0, CARD_REFUSED_TEXT_TOO_LONG},
+    {4, 61, 0, 0, 1, CARD_REFUSED_TEXT_TOO_LONG},
+    {4, 1, 1, 0, 0, CARD_REFUSED_CHARACTER},
+    {4, 59, 59, 0, 0, CARD_REFUSED_CHARACTER},
+    {4, 60, 1, 0, 0, CARD_REFUSED_CHARACTER},
+    {4, 60, 30, 0, 0, CARD_REFUSED_CHARACTER},
+    {4, 60, 60, 0, 0, CARD_REFUSED_CHARACTER},
+    {4, 60, 1, 60, 0, CARD_REFUSED_CHARACTER},
+    {4, 60, 30, 31, 1, CARD_REFUSED_CHARACTER},
+    {4, 60, 59, 0, 1, CARD_REFUSED_CHARACTER},
+    {4, 60, 0, 0, 1, CARD_REFUSED_SPACE_AT_END},
+    {4, 1, 0, 0, 1, CARD_REFUSED_SPACE_AT_END},
+    {5, 0, 0, 0, 0, CARD_REFUSED_NO_TEXT},
+    {5, 1, 0, 0, 1, 0},
+    {5, 61, 0, 0, 0, 0},
+    {5, 239, 0, 0, 0, 0},
+    {5, 240, 0, 0, 1, 0},
+    {5, 241, 0, 0, 0, CARD_REFUSED_TEXT_TOO_LONG},
+    {5, 241, 1, 241, 0, CARD_REFUSED_TEXT_TOO_LONG},
+    {5, 1, 1, 0, 0, CARD_REFUSED_CHARACTER},
+    {5, 239, 239, 0, 0, CARD_REFUSED_CHARACTER},
+    {5, 240, 1, 0, 0, CARD_REFUSED_CHARACTER},
+    {5, 240, 120, 0, 0, CARD_REFUSED_CHARACTER},
+    {5, 240, 240, 0, 0, CARD_REFUSED_CHARACTER},
+    {5, 240, 120, 240, 0, CARD_REFUSED_CHARACTER},
+    {5, 240, 239, 0, 1, CARD_REFUSED_CHARACTER},
+};
+
+/* the page's line, behind what stands in the job: where it ends */
+static size_t put_text(size_t at, const struct text *page) {
+    char head[16];
+    sprintf(head, "000009 %d%s", page->kind, page->characters > 0 ? " " : "");
+    at = put(job, at, head);
+    for (int i = 1; i <= page->characters; i++) {
+        int bad = i == page->bad || i == page->also_bad;
+        at = put(job, at, bad ? "00" : page->ends_in_space && i == page->characters ? "20" : "31");
+    }
+    return put(job, at, "\n");
+}
+
+/* a text's length and characters, in the second line of a job */
+static void declined_texts(void) {
+    for (size_t i = 0; i < sizeof texts / sizeof *texts; i++) {
+        size_t length = put_text(put(job, 0, "000009 0\n"), &texts[i]);
+        uint32_t number = texts[i].number;
+        answered(job, length, number, number == 0 ? 0 : 2, number == CARD_REFUSED_CHARACTER ? (size_t)texts[i].bad : 0);
     }
 }
 
@@ -191,6 +259,7 @@ int main(void) {
     longest_transmission();
     most_message_words();
     declined_jobs();
+    declined_texts();
     null_jobs();
     for (int i = 0; i < 2; i++) {
         longest_reading(&engines[i]);

@@ -13,7 +13,7 @@ mod measure;
 use generate::words::Damage;
 use generate::{jobs, listings, words, Random};
 use independent::send::Accepted;
-use independent::{codeword, reader, send};
+use independent::{codeword, reader, send, Refusal};
 use measure::{print_head, row, Effort};
 use std::hint::black_box;
 use std::time::Duration;
@@ -140,10 +140,10 @@ impl Bench {
     fn send_row(&mut self, name: &str, job: &[u8]) {
         let mut words = self.words.clone();
         let mut slots = self.slots.clone();
-        let report = card::send(job, &mut self.words, &mut self.slots);
+        let card::Report { place, position, number, batches, words: count } = card::send(job, &mut self.words, &mut self.slots);
         match send::send(job, &mut words, &mut slots) {
-            Ok(answer) => assert_eq!((answer.batches, answer.words, 0), (report.batches, report.words, report.number)),
-            Err(refusal) => assert_eq!((refusal.number, refusal.place), (report.number, report.place)),
+            Ok(answer) => assert_eq!((number, answer), (0, send::Report { batches, words: count })),
+            Err(refusal) => assert_eq!(refusal, Refusal { number, place, position }),
         }
         assert!(words == self.words && slots == self.slots);
         row(
@@ -157,8 +157,8 @@ impl Bench {
 
     fn list_row(&mut self, name: &str, job: &[u8]) {
         let mut bytes = self.bytes.clone();
-        let answer = card::list(job, &mut self.bytes);
-        assert_eq!(send::list(job, &mut bytes).expect("good job"), answer.bytes);
+        let listed = send::list(job, &mut bytes).expect("good job");
+        assert_eq!(card::list(job, &mut self.bytes), card::Bytes { place: 0, position: 0, bytes: listed, number: 0 });
         assert!(bytes == self.bytes);
         row(
             self.effort,
@@ -171,9 +171,9 @@ impl Bench {
 
     /// A start and every step of a job, and the start alone. The library's state is lent; the independent implementation makes its own.
     fn steps_rows(&mut self, name: &str, job: &[u8]) {
-        use card::steps::{start, step, Sender};
+        use card::steps::{self, start, step, Sender};
         let mut state = Sender::boxed();
-        assert_eq!(start(job, &mut state).number, 0);
+        assert_eq!(start(job, &mut state), steps::Refusal::NONE);
         assert!(send::Sender::start(job).expect("good job").all(|word| step(&mut state).word == word));
         assert_eq!(step(&mut state).done, 1);
         row(self.effort, &format!("start {name}"), 1, &mut || _ = black_box(start(black_box(job), &mut state)), &mut || {
@@ -270,7 +270,7 @@ impl Bench {
     }
 }
 
-fn same(library: card::Reading, independent: Result<reader::Reading, independent::Refusal>) {
+fn same(library: card::Reading, independent: Result<reader::Reading, Refusal>) {
     let expected = independent.expect("can be read");
     let card::Reading { bytes, number, pages, lost, orphans, changed: card::Changes { slots, syncs }, .. } = library;
     let got = reader::Reading { bytes, pages, lost, orphans, changed: reader::Changes { slots, syncs } };

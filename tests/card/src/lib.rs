@@ -23,6 +23,7 @@ pub struct Word {
 #[derive(Clone, Copy, Debug, PartialEq, Eq)]
 pub struct Report {
     pub place: usize,
+    pub position: usize,
     pub number: u32,
     pub batches: u32,
     pub words: u32,
@@ -33,6 +34,7 @@ pub struct Report {
 #[derive(Clone, Copy, Debug, PartialEq, Eq)]
 pub struct Bytes {
     pub place: usize,
+    pub position: usize,
     pub bytes: usize,
     pub number: u32,
 }

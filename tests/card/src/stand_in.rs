@@ -1,6 +1,8 @@
 //! The library's C functions on top of the independent implementation, for builds without the archive. CARD_FAULT names a mistake
 //! to be made on purpose, so that one can see the comparison find it.
 
+mod declined;
+pub mod program;
 mod slow;
 
 use crate::steps::{self, Sender, Step};
@@ -62,6 +64,20 @@ pub const FAULTS: &[&str] = &[
     "syncs-among-the-slots",
     "syncs-31-bits",
     "sums-when-declined",
+    "12-and-13-exchanged",
+    "long-tone-is-14",
+    "14-after-6",
+    "7-before-6",
+    "position-from-0",
+    "position-in-digits",
+    "position-in-the-line",
+    "position-of-the-last",
+    "position-with-7",
+    "position-with-14",
+    "list-without-position",
+    "start-without-position",
+    "program-without-position",
+    "program-with-0",
     "slow-one-bit",
     "slow-31-bits",
     "slow-three-bits",
@@ -148,7 +164,7 @@ unsafe extern "C" fn card_send(
     if is("last-buffer-unit-unused") && words_length > 0 {
         return report(send::send(&job, &mut words[..words_length - 1], slots));
     }
-    let mut answer = report(send::send(&job, words, slots));
+    let mut answer = report(send::send(&job, words, slots).map_err(|right| declined::said(&job, right)));
     if answer.number == 0 {
         let end = answer.words as usize;
         if is("no-idle-batch") && words[end - 16..end] == [codeword::IDLE; 16] && words[end - 18] >> 31 == 1 {
@@ -175,17 +191,22 @@ unsafe extern "C" fn card_send(
 
 fn report(result: Result<send::Report, Refusal>) -> Report {
     match result {
-        Ok(send::Report { batches, words }) => Report { place: 0, number: 0, batches, words },
-        Err(Refusal { number, place }) => Report { place, number, batches: 0, words: 0 },
+        Ok(send::Report { batches, words }) => Report { place: 0, position: 0, number: 0, batches, words },
+        Err(Refusal { number, place, position }) => Report { place, position, number, batches: 0, words: 0 },
     }
 }
 
 #[no_mangle]
 unsafe extern "C" fn card_list(job: *const u8, job_length: usize, out: *mut u8, out_length: usize) -> Bytes {
     let job = taken(from_raw_parts(job, job_length));
-    match send::list(&job, from_raw_parts_mut(out, out_length)) {
-        Ok(bytes) => Bytes { place: 0, bytes, number: 0 },
-        Err(Refusal { number, place }) => Bytes { place, bytes: 0, number },
+    match send::list(&job, from_raw_parts_mut(out, out_length)).map_err(|right| declined::said(&job, right)) {
+        Ok(bytes) => Bytes { place: 0, position: 0, bytes, number: 0 },
+        Err(Refusal { number, place, mut position }) => {
+            if is("list-without-position") {
+                position = 0;
+            }
+            Bytes { place, position, bytes: 0, number }
+        }
     }
 }
 
@@ -297,7 +318,7 @@ fn reading(result: Result<reader::Reading, Refusal>, words: impl FnOnce() -> Vec
             let orphans = if is("orphans-not-counted") { 0 } else { orphans };
             Reading { place: 0, bytes, number: 0, pages, lost, orphans, changed: summed(words, changed) }
         }
-        Err(Refusal { number, mut place }) => {
+        Err(Refusal { number, mut place, .. }) => {
             if is("place-of-21") && number == 21 {
                 place = place.saturating_sub(1);
             }
@@ -309,13 +330,17 @@ fn reading(result: Result<reader::Reading, Refusal>, words: impl FnOnce() -> Vec
 
 #[no_mangle]
 unsafe extern "C" fn card_start(job: *const u8, job_length: usize, state: *mut Sender) -> steps::Refusal {
-    let pages = match job::parse(&taken(from_raw_parts(job, job_length))) {
+    let job = taken(from_raw_parts(job, job_length));
+    let pages = match job::parse(&job).map_err(|right| declined::said(&job, right)) {
         Ok(pages) => pages,
-        Err(Refusal { number, place }) => {
+        Err(Refusal { number, place, mut position }) => {
             if is("start-writes-when-declined") {
                 (*state).cursor.message = 0;
             }
-            return steps::Refusal { place, number };
+            if is("start-without-position") {
+                position = 0;
+            }
+            return steps::Refusal { place, position, number };
         }
     };
     let mut next = Sender::boxed();
@@ -334,7 +359,7 @@ unsafe extern "C" fn card_start(job: *const u8, job_length: usize, state: *mut S
     }
     next.words[..words.len()].copy_from_slice(&words);
     *state = *next;
-    steps::Refusal { place: 0, number: 0 }
+    steps::Refusal::NONE
 }
 
 /// Whether number 11 is given.

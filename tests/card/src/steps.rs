@@ -74,7 +74,12 @@ impl Sender {
 #[derive(Clone, Copy, Debug, PartialEq, Eq)]
 pub struct Refusal {
     pub place: usize,
+    pub position: usize,
     pub number: u32,
+}
+
+impl Refusal {
+    pub const NONE: Refusal = Refusal { place: 0, position: 0, number: 0 };
 }
 
 /// `struct card_step_answer`.

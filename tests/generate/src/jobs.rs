@@ -3,6 +3,8 @@
 use crate::{bytes, Random};
 
 const NUMERIC: &[u8] = b"0123456789U -][";
+const MOST_NUMERIC: usize = 60;
+const MOST_ALPHANUMERIC: usize = 240;
 const EDGES: &[u32] = &[0, 7, 8, 0x1E_A26F, 0x1E_A278, 0x1F_347F, 0x1F_3488, 0x1F_FFF8, 0x1F_FFFF];
 const RESERVED: &[u32] = &[0x1E_A270, 0x1F_3480];
 
@@ -65,21 +67,25 @@ fn length(random: &mut Random, most: usize) -> usize {
     length.clamp(1, most)
 }
 
-/// A good line of a given kind in one of the frames.
-fn page_of_kind(random: &mut Random, frames: &[u32], kind: u32) -> Vec<u8> {
-    let identity = identity(random, frames);
-    let text = match kind {
+/// A good text of a given kind.
+fn text_of_kind(random: &mut Random, kind: u32) -> Vec<u8> {
+    match kind {
         4 => {
-            let length = length(random, 60);
+            let length = length(random, MOST_NUMERIC);
             numeric_text(random, length)
         }
         5 => {
-            let length = length(random, 240);
+            let length = length(random, MOST_ALPHANUMERIC);
             alphanumeric_text(random, length)
         }
         _ => vec![],
-    };
-    line(identity, kind, &text)
+    }
+}
+
+/// A good line of a given kind in one of the frames.
+fn page_of_kind(random: &mut Random, frames: &[u32], kind: u32) -> Vec<u8> {
+    let identity = identity(random, frames);
+    line(identity, kind, &text_of_kind(random, kind))
 }
 
 const ALL_FRAMES: &[u32] = &[0, 1, 2, 3, 4, 5, 6, 7];
@@ -196,76 +202,107 @@ pub fn good(random: &mut Random) -> Vec<u8> {
     }
 }
 
-/// A line that is declined with the given number from 1 to 7, and often has faults of higher numbers too.
-pub fn faulty_line(random: &mut Random, number: u32) -> Vec<u8> {
-    let mut identity = identity(random, ALL_FRAMES);
-    let mut kind = random.pick(ALL_KINDS);
-    let mut text = match kind {
-        4 => numeric_text(random, 12),
-        5 => alphanumeric_text(random, 12),
-        _ => vec![],
-    };
-    match number {
-        1 => {
-            let mut good = page(random);
-            let end = good.len() - 1;
-            match random.below(8) {
-                0 => good.truncate(random.below(8)),
-                1 => good.insert(end, b' '),
-                2 => good.insert(end, b'-'),
-                3 => good.insert(end, b'\r'),
-                4 => good[random.below(8)] = random.pick(b"/:@Gag\0\xFF"),
-                5 => good.insert(random.below(end), b' '),
-                6 => good.insert(6, b' '),
-                _ => good = format!("{:06X} {} {:05X}\n", identity, random.pick(&[6, 7]), random.word() & 0xF_FFFF).into_bytes(),
-            }
-            if !good.ends_with(b"\n") {
-                good.push(b'\n');
-            }
-            return good;
-        }
-        2 => identity = random.pick(&[0x20_0000, 0x20_0001, 0x3E_A270, 0xFF_FFFF, 0x20_0000 + identity]),
-        3 => identity = random.pick(RESERVED) + random.below(8) as u32,
-        4 => kind = random.between(6, 15) as u32,
-        5 => {
-            (kind, text) = match random.below(5) {
-                0 => (kind.min(3), vec![b'1'; random.between(1, 3)]),
-                1 => (4, vec![]),
-                2 => (4, numeric_text(random, 61)),
-                3 => (5, vec![]),
-                _ => (5, alphanumeric_text(random, 241)),
-            }
-        }
-        6 => {
-            kind = random.pick(&[4, 5]);
-            let bad = if kind == 4 { random.pick(b"*/:u()TV\x5C\x5E\0\x80\xFF") } else { random.pick(b"\0\x03\x04\x80\xFF") };
-            let most = if kind == 4 { 60 } else { 240 };
-            let length = length(random, most);
-            text = if kind == 4 { numeric_text(random, length) } else { alphanumeric_text(random, length) };
-            text[random.below(length)] = bad;
-        }
+/// A line that isn't written as a page line.
+fn malformed_line(random: &mut Random) -> Vec<u8> {
+    let mut line = page(random);
+    let end = line.len() - 1;
+    match random.below(8) {
+        0 => line.truncate(random.below(8)),
+        1 => line.insert(end, b' '),
+        2 => line.insert(end, b'-'),
+        3 => line.insert(end, b'\r'),
+        4 => line[random.below(8)] = random.pick(b"/:@Gag\0\xFF"),
+        5 => line.insert(random.below(end), b' '),
+        6 => line.insert(6, b' '),
         _ => {
-            kind = 4;
-            let length = length(random, 60);
-            text = numeric_text(random, length);
-            *text.last_mut().unwrap() = b' ';
+            let identity = identity(random, ALL_FRAMES);
+            line = format!("{identity:06X} {} {:05X}\n", random.pick(&[6, 7]), random.word() & 0xF_FFFF).into_bytes();
         }
     }
-    // higher numbers as well
-    if matches!(number, 2 | 3) && random.once_in(3) {
-        kind = random.between(6, 15) as u32;
+    if !line.ends_with(b"\n") {
+        line.push(b'\n');
     }
-    if (2..=4).contains(&number) && random.once_in(3) {
-        text = vec![random.byte(); random.pick(&[1, 61, 241, 300])];
+    line
+}
+
+/// A text that isn't empty: a good one of either kind, or one byte again and again.
+fn any_text(random: &mut Random) -> Vec<u8> {
+    match random.below(4) {
+        0 => text_of_kind(random, 4),
+        1 => text_of_kind(random, 5),
+        _ => vec![random.byte(); random.pick(&[1, 2, 60, 61, 240, 241, 300])],
     }
-    if number == 5 && text.len() > 60 && random.once_in(2) {
-        let at = random.below(text.len());
-        text[at] = 0;
+}
+
+/// A text that is too long for its kind, often with a bad character or with a space at the end.
+fn long_text(random: &mut Random, kind: u32) -> Vec<u8> {
+    let more = random.pick(&[1, 1, 1, 2, 61, 181]);
+    let mut text = match kind {
+        4 => numeric_text(random, MOST_NUMERIC + more),
+        _ => alphanumeric_text(random, MOST_ALPHANUMERIC + more),
+    };
+    let last = text.len() - 1;
+    match random.below(4) {
+        0 => text[random.below(last + 1)] = 0,
+        1 => text[last] = b' ',
+        _ => {}
     }
-    if number == 6 && kind == 4 && text.len() > 1 && random.once_in(3) {
-        *text.last_mut().unwrap() = b' ';
-        text[0] = b'*';
+    text
+}
+
+/// A text with one to three characters that its kind doesn't have, often the first or the last; it may end in a space.
+fn bad_text(random: &mut Random, kind: u32) -> Vec<u8> {
+    let bad: &[u8] = if kind == 4 { b"*/:u()TV\x5C\x5E\0\x80\xFF" } else { b"\0\x03\x04\x80\xFF" };
+    let mut text = text_of_kind(random, kind);
+    let last = text.len() - 1;
+    if random.once_in(3) {
+        text[last] = b' ';
     }
+    for _ in 0..random.pick(&[1, 1, 2, 3]) {
+        let at = match random.below(4) {
+            0 => 0,
+            1 => last,
+            _ => random.below(last + 1),
+        };
+        text[at] = random.pick(bad);
+    }
+    text
+}
+
+/// The numbers that a line is declined with, in the order of the tests.
+const LINE_NUMBERS: &[u32] = &[1, 2, 3, 4, 12, 13, 14, 6, 7];
+
+/// A line that is declined with the given one of these numbers, and often has faults of later ones too.
+fn faulty_line(random: &mut Random, number: u32) -> Vec<u8> {
+    if number == 1 {
+        return malformed_line(random);
+    }
+    let good = identity(random, ALL_FRAMES);
+    let identity = match number {
+        2 => random.pick(&[0x20_0000, 0x20_0001, 0x3E_A270, 0xFF_FFFF, 0x20_0000 + good]),
+        3 => random.pick(RESERVED) + random.below(8) as u32,
+        _ => good,
+    };
+    let kind = match number {
+        2 | 3 => random.pick(&[0, 1, 2, 3, 4, 5, 6, 9, 15]),
+        4 => random.between(6, 15) as u32,
+        12 => random.below(4) as u32,
+        7 => 4,
+        _ => random.pick(&[4, 5]),
+    };
+    let text = match number {
+        13 => vec![],
+        14 => long_text(random, kind),
+        6 => bad_text(random, kind),
+        7 => {
+            let mut text = text_of_kind(random, kind);
+            text.pop();
+            text.push(b' ');
+            text
+        }
+        2..=4 if random.once_in(3) => vec![],
+        _ => any_text(random),
+    };
     line(identity, kind, &text)
 }
 
@@ -277,7 +314,7 @@ pub fn bad(random: &mut Random) -> Vec<u8> {
             let before = random.pick(&[0, 0, 1, 2, 10, 46, 47, 48]);
             let behind = random.pick(&[0, 0, 1, 2, 5]);
             let mut job = Vec::new();
-            let numbers = (random.between(1, 7) as u32, random.between(1, 7) as u32);
+            let numbers = (random.pick(LINE_NUMBERS), random.pick(LINE_NUMBERS));
             job.extend(short_pages(random, before));
             job.extend(faulty_line(random, numbers.0));
             job.extend(short_pages(random, behind));
@@ -297,7 +334,7 @@ pub fn bad(random: &mut Random) -> Vec<u8> {
                 1 => job.push(b'\n'),
                 2 => job.push(random.byte()),
                 3 => {
-                    let number = random.between(1, 7) as u32;
+                    let number = random.pick(LINE_NUMBERS);
                     job.extend(faulty_line(random, number));
                 }
                 _ => {}
@@ -354,9 +391,46 @@ fn pauses() -> Vec<Vec<u8>> {
     jobs
 }
 
+/// Texts of every kind about the greatest lengths, as the second line of a job: with no bad character, or with one as the first,
+/// in the middle or as the last; the last is good, a space, or bad as well. The same in every run.
+pub fn texts() -> Vec<Vec<u8>> {
+    let mut jobs = vec![];
+    let mut push = |kind: u32, text: &[u8]| jobs.push([line(7, 0, b""), line(9, kind, text)].concat());
+    for kind in 0..6 {
+        push(kind, b"");
+        for length in [1, 2, 59, 60, 61, 239, 240, 241] {
+            for last in [b'1', b' ', 0xFF] {
+                let mut text = vec![b'1'; length];
+                text[length - 1] = last;
+                push(kind, &text);
+                for bad in [0, length / 2, length - 1] {
+                    let mut text = text.clone();
+                    text[bad] = 0;
+                    push(kind, &text);
+                }
+            }
+        }
+    }
+    jobs
+}
+
+/// The longest texts with a bad character at every position, and another one at the end.
+fn bad_positions() -> Vec<Vec<u8>> {
+    let mut jobs = vec![];
+    for (kind, most) in [(4, MOST_NUMERIC), (5, MOST_ALPHANUMERIC)] {
+        for bad in 0..most {
+            let mut text = vec![b'1'; most];
+            text[most - 1] = 0xFF;
+            text[bad] = 0;
+            jobs.push(line(9, kind, &text));
+        }
+    }
+    jobs
+}
+
 /// Jobs on both sides of every limit, the same in every run.
 pub fn limits() -> Vec<Vec<u8>> {
-    let mut jobs = pauses();
+    let mut jobs = [pauses(), texts(), bad_positions()].concat();
     // identities by kinds
     let mut identities = vec![0, 1, 0x20_0000, 0x20_0001, 0x3E_A270, 0x3F_3480, 0xFF_FFFF];
     for edge in EDGES.iter().chain(RESERVED) {
@@ -436,7 +510,7 @@ pub fn limits() -> Vec<Vec<u8>> {
             if count > 0 {
                 jobs.push(job[..job.len() - 1].to_vec());
             }
-            for bad in [&b"200000 0\n"[..], b"\n", b"000007 4 20\n"] {
+            for bad in [&b"200000 0\n"[..], b"\n", b"000007 1 31\n", b"000007 4 312A2A\n", b"000007 4 20\n"] {
                 jobs.push([bad, &job].concat());
                 jobs.push([&job[..], bad, &job].concat());
             }
@@ -466,25 +540,36 @@ mod tests {
     #[test]
     fn faulty_lines_have_their_number() {
         let mut random = Random::new(2);
-        for number in 1..=7 {
+        let mut positions = BTreeSet::new();
+        for &number in LINE_NUMBERS {
             for _ in 0..500 {
                 let line = faulty_line(&mut random, number);
                 let refusal = parse(&line).unwrap_err();
                 assert_eq!(refusal.number, number, "{:?}", String::from_utf8_lossy(&line));
+                positions.insert(refusal.position);
             }
         }
+        assert!([1, 60, 240].iter().all(|position| positions.contains(position)) && positions.len() > 100, "{positions:?}");
+    }
+
+    /// The numbers that jobs are declined with, and the positions; 0 and 0 where a job isn't.
+    fn answers(jobs: &[Vec<u8>]) -> (BTreeSet<u32>, BTreeSet<usize>) {
+        jobs.iter().map(|job| parse(job).map_or_else(|refusal| (refusal.number, refusal.position), |_| (0, 0))).unzip()
     }
 
     #[test]
     fn every_refusal_is_met() {
         let mut random = Random::new(3);
-        let mut met = BTreeSet::new();
-        for _ in 0..3000 {
-            met.insert(parse(&bad(&mut random)).map_or_else(|refusal| refusal.number, |_| 0));
-        }
-        assert!((0..=8).all(|number| met.contains(&number)), "{met:?}");
-        let met: BTreeSet<u32> = limits().iter().map(|job| parse(job).map_or_else(|refusal| refusal.number, |_| 0)).collect();
-        assert_eq!(met, (0..=9).collect());
+        let drawn: Vec<Vec<u8>> = (0..3000).map(|_| bad(&mut random)).collect();
+        let (numbers, positions) = answers(&drawn);
+        assert!(LINE_NUMBERS.iter().chain(&[0, 8]).all(|number| numbers.contains(number)), "{numbers:?}");
+        assert!(positions.len() > 50, "{positions:?}");
+        let (numbers, positions) = answers(&limits());
+        assert_eq!(numbers, LINE_NUMBERS.iter().copied().chain([0, 8, 9]).collect());
+        assert_eq!(positions, (0..=240).collect());
+        let (numbers, positions) = answers(&texts());
+        assert_eq!(numbers, [0, 6, 7, 12, 13, 14].into());
+        assert_eq!(positions, [0, 1, 2, 30, 31, 59, 60, 61, 120, 121, 239, 240].into());
     }
 
     /// Counts the pauses of a job in which pages wait, by their slot (behind a sync, a frame's first, its second) and by who waits.

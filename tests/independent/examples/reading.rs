@@ -1,10 +1,7 @@
 //! The reading program: a listing on standard input, its page lines on standard output.
 
-use independent::program::{reading, MOST_INPUT};
-use std::io::{Read, Write};
+use independent::program::{reading, run};
 
 fn main() -> std::io::Result<()> {
-    let mut input = Vec::new();
-    std::io::stdin().take(MOST_INPUT as u64 + 1).read_to_end(&mut input)?;
-    std::io::stdout().write_all(&reading(&input))
+    run(reading)
 }

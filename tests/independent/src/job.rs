@@ -57,41 +57,34 @@ impl Page {
         }
     }
 
-    /// The line's fault, as a number from 1 to 7, or its page. The line comes without its newline.
-    fn parse(line: &[u8]) -> Result<Page, u32> {
-        let (identity, kind, pairs) = split(line).ok_or(1u32)?;
-        if pairs.len() % 2 != 0 {
-            return Err(1);
-        }
-        let mut text = Vec::with_capacity(pairs.len() / 2);
-        for pair in pairs.chunks_exact(2) {
-            text.push(number(pair).ok_or(1u32)? as u8);
-        }
+    /// The page of the line at a place, which comes without its newline, or what is wrong with it.
+    fn parse(line: &[u8], place: usize) -> Result<Page, Refusal> {
+        let fault = |number| Refusal::new(number, place);
+        let Some((identity, kind, text)) = split(line) else {
+            return Err(fault(1));
+        };
         if identity > 0x1F_FFFF {
-            return Err(2);
+            return Err(fault(2));
         }
         if codeword::is_reserved(identity >> 3) {
-            return Err(3);
+            return Err(fault(3));
         }
-        let lengths = match kind {
-            0..=3 => 0..=0,
-            NUMERIC => 1..=MOST_NUMERIC,
-            ALPHANUMERIC => 1..=MOST_ALPHANUMERIC,
-            _ => return Err(4),
-        };
-        if !lengths.contains(&text.len()) {
-            return Err(5);
+        if kind > ALPHANUMERIC {
+            return Err(fault(4));
         }
-        let good = match kind {
-            NUMERIC => text.iter().all(|&byte| text::numeric_value(byte).is_some()),
-            ALPHANUMERIC => text.iter().all(|&byte| text::is_alphanumeric(byte)),
-            _ => true,
+        if let Some(number) = length_fault(kind, text.len()) {
+            return Err(fault(number));
+        }
+        let before_bad = match kind {
+            NUMERIC => text.iter().position(|&byte| text::numeric_value(byte).is_none()),
+            ALPHANUMERIC => text.iter().position(|&byte| !text::is_alphanumeric(byte)),
+            _ => None,
         };
-        if !good {
-            return Err(6);
+        if let Some(before) = before_bad {
+            return Err(Refusal { position: before + 1, ..fault(6) });
         }
         if kind == NUMERIC && text.last() == Some(&b' ') {
-            return Err(7);
+            return Err(fault(7));
         }
         Ok(Page { identity, kind, text })
     }
@@ -104,18 +97,44 @@ impl Page {
     }
 }
 
-/// Identity, kind and the digits of the text; none are there if the line has no second space.
-fn split(line: &[u8]) -> Option<(u32, u32, &[u8])> {
+/// What is wrong with the length of a kind's text, as a number.
+fn length_fault(kind: u32, length: usize) -> Option<u32> {
+    let most = match kind {
+        NUMERIC => MOST_NUMERIC,
+        ALPHANUMERIC => MOST_ALPHANUMERIC,
+        _ => return (length > 0).then_some(12),
+    };
+    match length {
+        0 => Some(13),
+        _ => (length > most).then_some(14),
+    }
+}
+
+/// Identity, kind and text; no text is there if the line has no second space.
+fn split(line: &[u8]) -> Option<(u32, u32, Vec<u8>)> {
     if line.len() < 8 || line[6] != b' ' {
         return None;
     }
     let identity = number(&line[..6])?;
     let kind = digit_value(line[7])?;
-    match &line[8..] {
-        [] => Some((identity, kind, &[])),
-        [b' ', digits @ ..] if !digits.is_empty() => Some((identity, kind, digits)),
-        _ => None,
+    let text = match &line[8..] {
+        [] => Vec::new(),
+        [b' ', digits @ ..] if !digits.is_empty() => characters(digits)?,
+        _ => return None,
+    };
+    Some((identity, kind, text))
+}
+
+/// The characters that pairs of digits spell.
+fn characters(digits: &[u8]) -> Option<Vec<u8>> {
+    if digits.len() % 2 != 0 {
+        return None;
     }
+    let mut text = Vec::with_capacity(digits.len() / 2);
+    for pair in digits.chunks_exact(2) {
+        text.push(number(pair)? as u8);
+    }
+    Some(text)
 }
 
 /// The pages of a job, or the first fault.
@@ -130,8 +149,7 @@ pub fn parse(job: &[u8]) -> Result<Vec<Page>, Refusal> {
         let Some(length) = rest.iter().position(|&byte| byte == b'\n') else {
             return Err(Refusal::new(1, place));
         };
-        let page = Page::parse(&rest[..length]).map_err(|number| Refusal::new(number, place))?;
-        pages.push(page);
+        pages.push(Page::parse(&rest[..length], place)?);
         rest = &rest[length + 1..];
     }
     if pages.is_empty() {
@@ -165,8 +183,11 @@ pub(crate) fn print_pairs(text: &[u8], out: &mut Vec<u8>) {
 mod tests {
     use super::*;
 
+    /// The number and the place; a position comes with number 6 alone.
     fn fault(job: impl AsRef<[u8]>) -> Option<(u32, usize)> {
-        parse(job.as_ref()).err().map(|refusal| (refusal.number, refusal.place))
+        let Refusal { number, place, position } = parse(job.as_ref()).err()?;
+        assert_eq!(position > 0, number == 6);
+        Some((number, place))
     }
 
     #[test]
@@ -242,25 +263,45 @@ mod tests {
     }
 
     #[test]
-    fn kinds_lengths_and_characters() {
-        let text = |count: usize| " 31".to_owned() + &"31".repeat(count - 1);
-        for kind in 0..4 {
-            assert_eq!(fault(format!("000000 {kind}\n")), None);
-            assert_eq!(fault(format!("000000 {kind} 31\n")), Some((5, 1)));
-        }
-        for (kind, most) in [(4, 60), (5, 240)] {
-            assert_eq!(fault(format!("000000 {kind}\n")), Some((5, 1)));
-            assert_eq!(fault(format!("000000 {kind}{}\n", text(1))), None);
-            assert_eq!(fault(format!("000000 {kind}{}\n", text(most))), None);
-            assert_eq!(fault(format!("000000 {kind}{}\n", text(most + 1))), Some((5, 1)));
-            assert_eq!(fault(format!("000000 {kind}{}FF\n", text(most))), Some((5, 1)));
-        }
+    fn kinds() {
+        let text = "31".repeat(500);
         for kind in ["6", "7", "8", "9", "A", "F"] {
             assert_eq!(fault(format!("000000 {kind}\n")), Some((4, 1)));
-            assert_eq!(fault(format!("000000 {kind}{}\n", text(500))), Some((4, 1)));
+            assert_eq!(fault(format!("000000 {kind} {text}\n")), Some((4, 1)));
         }
         assert_eq!(fault("000000 6 1234512345\n"), Some((4, 1)));
         assert_eq!(fault("1EA270 9\n"), Some((3, 1)));
+    }
+
+    /// A line without its newline.
+    fn line(kind: u32, text: &[u8]) -> Vec<u8> {
+        let mut line = Vec::new();
+        print_head(0, kind, &mut line);
+        print_pairs(text, &mut line);
+        line
+    }
+
+    #[test]
+    fn lengths() {
+        for length in [0, 1, 2, 59, 60, 61, 239, 240, 241, 500] {
+            for kind in 0..6 {
+                let expected = match (kind, length) {
+                    (0..=3, 0) | (4, 1..=60) | (5, 1..=240) => None,
+                    (0..=3, _) => Some(12),
+                    (_, 0) => Some(13),
+                    _ => Some(14),
+                };
+                let number = |character| Page::parse(&line(kind, &vec![character; length]), 1).err().map(|refusal| refusal.number);
+                assert_eq!(number(b'1'), expected, "kind {kind}, {length} characters");
+                // a wrong length comes before a bad character
+                let with_bad = if length > 0 { expected.or(Some(6)) } else { expected };
+                assert_eq!(number(0xFF), with_bad, "kind {kind}, {length} bad characters");
+            }
+        }
+    }
+
+    #[test]
+    fn characters() {
         for byte in 0..=255u8 {
             let numeric = fault(format!("000000 4 {byte:02X}31\n"));
             assert_eq!(numeric, (!b"0123456789U -][".contains(&byte)).then_some((6, 1)), "{byte:02X}");
@@ -269,9 +310,27 @@ mod tests {
         }
         assert_eq!(fault("000000 4 3120\n"), Some((7, 1)));
         assert_eq!(fault("000000 4 20\n"), Some((7, 1)));
-        assert_eq!(fault("000000 4 2A20\n"), Some((6, 1)));
         assert_eq!(fault("000000 4 2031\n"), None);
         assert_eq!(fault("000000 5 20\n"), None);
+    }
+
+    #[test]
+    fn positions() {
+        for (kind, length) in [(4, 1), (4, 2), (4, 59), (4, 60), (5, 1), (5, 239), (5, 240)] {
+            for first in 0..length {
+                // alone, with another bad character as the last one, with a space as the last one
+                for last in [b'1', 0xFF, b' '] {
+                    let mut text = vec![b'1'; length];
+                    text[length - 1] = last;
+                    text[first] = 0;
+                    let expected = Refusal { number: 6, place: 7, position: first + 1 };
+                    assert_eq!(Page::parse(&line(kind, &text), 7), Err(expected), "kind {kind}, {length} characters, {last}");
+                }
+            }
+        }
+        // characters are counted, neither digits nor columns; the line is the job's
+        let refusal = parse(b"000000 0\n000000 4 31322A332A20\n000000 4 2A\n").unwrap_err();
+        assert_eq!(refusal, Refusal { number: 6, place: 2, position: 3 });
     }
 
     #[test]

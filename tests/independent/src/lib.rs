@@ -12,21 +12,23 @@ pub mod send;
 pub mod state;
 pub mod text;
 
-/// Why work is declined: a number of document 01's table, and the place that goes with it.
+/// Why work is declined: a number of document 01's table as R-1 has it, and the place that goes with it.
 #[derive(Clone, Copy, Debug, PartialEq, Eq)]
 pub struct Refusal {
     pub number: u32,
     pub place: usize,
+    /// With number 6 that of the text's first bad character, from 1; 0 with any other.
+    pub position: usize,
 }
 
 impl Refusal {
     pub fn new(number: u32, place: usize) -> Self {
-        Refusal { number, place }
+        Refusal { number, place, position: 0 }
     }
 }
 
 /// The answer does not fit where it is to go.
-pub(crate) const TOO_SHORT: Refusal = Refusal { number: 10, place: 0 };
+pub(crate) const TOO_SHORT: Refusal = Refusal { number: 10, place: 0, position: 0 };
 
 /// The value of an upper-case hexadecimal digit.
 pub(crate) fn digit_value(byte: u8) -> Option<u32> {

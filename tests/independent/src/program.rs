@@ -4,6 +4,7 @@ use crate::listing::{self, BYTES_A_WORD};
 use crate::reader;
 use crate::send::Accepted;
 use crate::Refusal;
+use std::io::{self, Read, Write};
 
 pub const MOST_INPUT: usize = 65_536;
 
@@ -24,7 +25,22 @@ pub fn reading(input: &[u8]) -> Vec<u8> {
 
 fn answer(input: &[u8], work: fn(&[u8]) -> Result<Vec<u8>, Refusal>) -> Vec<u8> {
     let result = if input.len() > MOST_INPUT { Err(Refusal::new(24, 0)) } else { work(input) };
-    result.unwrap_or_else(|Refusal { number, place }| format!("refused {number} place {place}\n").into_bytes())
+    result.unwrap_or_else(|refusal| refused(refusal).into_bytes())
+}
+
+/// The line of a refusal; the position is in that of number 6 alone.
+fn refused(Refusal { number, place, position }: Refusal) -> String {
+    match number {
+        6 => format!("refused {number} place {place} {position}\n"),
+        _ => format!("refused {number} place {place}\n"),
+    }
+}
+
+/// Prints for standard input what a program prints.
+pub fn run(program: impl Fn(&[u8]) -> Vec<u8>) -> io::Result<()> {
+    let mut input = Vec::new();
+    io::stdin().take(MOST_INPUT as u64 + 1).read_to_end(&mut input)?;
+    io::stdout().write_all(&program(&input))
 }
 
 #[cfg(test)]
@@ -53,6 +69,11 @@ mod tests {
         assert_eq!(sending(b""), b"refused 9 place 0\n");
         assert_eq!(sending(b"000009 4 3132"), b"refused 1 place 1\n");
         assert_eq!(sending(b"000009 0\n1EA270 0\n"), b"refused 3 place 2\n");
+        assert_eq!(sending(b"000009 0\n000009 3 31\n"), b"refused 12 place 2\n");
+        assert_eq!(sending(b"000009 4\n"), b"refused 13 place 1\n");
+        assert_eq!(sending(format!("000009 4 {}\n", "2A".repeat(61)).as_bytes()), b"refused 14 place 1\n");
+        assert_eq!(sending(b"000009 0\n000009 4 31322A2A20\n"), b"refused 6 place 2 3\n");
+        assert_eq!(sending(b"000009 4 3120\n"), b"refused 7 place 1\n");
         assert_eq!(reading(b""), b"refused 21 place 1\n");
         let listing = sending(b"000009 0\n");
         let bad_sync = String::from_utf8(listing).unwrap().replace("7CD215D8", "7CD215DF");

@@ -83,8 +83,8 @@ impl Comparison {
         let (mut words, mut slots) = (words_before.clone(), slots_before.clone());
         let (mut words_got, mut slots_got) = (words_before.clone(), slots_before.clone());
         let expected = match send::send(job, words.slice(), slots.slice()) {
-            Ok(report) => card::Report { place: 0, number: 0, batches: report.batches, words: report.words },
-            Err(Refusal { number, place }) => card::Report { place, number, batches: 0, words: 0 },
+            Ok(send::Report { batches, words }) => card::Report { place: 0, position: 0, number: 0, batches, words },
+            Err(Refusal { number, place, position }) => card::Report { place, position, number, batches: 0, words: 0 },
         };
         if expected.number != 0 {
             (words, slots) = (words_before, slots_before);
@@ -105,8 +105,8 @@ impl Comparison {
         let before: Lent<u8> = Lent::new(&mut self.random, length);
         let (mut out, mut out_got) = (before.clone(), before.clone());
         let expected = match send::list(job, out.slice()) {
-            Ok(bytes) => card::Bytes { place: 0, bytes, number: 0 },
-            Err(Refusal { number, place }) => card::Bytes { place, bytes: 0, number },
+            Ok(bytes) => card::Bytes { place: 0, position: 0, bytes, number: 0 },
+            Err(Refusal { number, place, position }) => card::Bytes { place, position, bytes: 0, number },
         };
         if expected.number != 0 {
             out = before;
@@ -181,8 +181,8 @@ impl Comparison {
         let before = state.clone();
         let got = steps::start(job, &mut state.sender);
         let (expected, words) = match Accepted::new(job) {
-            Ok(accepted) => (steps::Refusal { place: 0, number: 0 }, accepted.words()),
-            Err(Refusal { number, place }) => (steps::Refusal { place, number }, vec![]),
+            Ok(accepted) => (steps::Refusal::NONE, accepted.words()),
+            Err(Refusal { number, place, position }) => (steps::Refusal { place, position, number }, vec![]),
         };
         if got != expected {
             return differs("start", got, expected, &input());
@@ -243,7 +243,7 @@ fn reading(result: Result<reader::Reading, Refusal>) -> card::Reading {
         Ok(reader::Reading { bytes, pages, lost, orphans, changed: reader::Changes { slots, syncs } }) => {
             card::Reading { place: 0, bytes, number: 0, pages, lost, orphans, changed: card::Changes { slots, syncs } }
         }
-        Err(Refusal { number, place }) => {
+        Err(Refusal { number, place, .. }) => {
             let changed = card::Changes { slots: 0, syncs: 0 };
             card::Reading { place, bytes: 0, number, pages: 0, lost: 0, orphans: 0, changed }
         }

@@ -35,6 +35,9 @@ impl Programs {
             }
         }
         self.send(comparison, b"000009 4 3132\n")?;
+        for job in jobs::texts() {
+            self.send(comparison, &job)?;
+        }
         for batches in [1, 299, 300, 301] {
             for lines in [8, 9, 36, 37] {
                 self.read(comparison, &listings::listing(lines, 0, &listings::idle_batches(batches)))?;

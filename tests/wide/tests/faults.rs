@@ -4,7 +4,8 @@
 use std::process::{Command, Output};
 
 fn wide(fault: &str) -> Output {
-    Command::new(env!("CARGO_BIN_EXE_wide")).args(["5", "1"]).env("CARD_FAULT", fault).output().expect("wide runs")
+    let arguments = ["5", "1", env!("CARGO_BIN_EXE_stand_in_sending"), env!("CARGO_BIN_EXE_stand_in_reading")];
+    Command::new(env!("CARGO_BIN_EXE_wide")).args(arguments).env("CARD_FAULT", fault).output().expect("wide runs")
 }
 
 #[test]
@@ -26,6 +27,8 @@ fn with_each_mistake() {
         if JUDGED.contains(fault) {
             assert!(text.contains("broken: "), "{fault}: {text}");
         }
+        // the programs' own mistakes, and no others, are found in what they print
+        assert_eq!(text.contains(" prints\n"), fault.starts_with("program-"), "{fault}: {text}");
         // the slow engine's own mistakes, and no others, are found in what it answers
         let (_, difference) = text.split_once("DIFFERENCE").expect("seen above");
         assert_eq!(difference.contains("slowly: "), fault.starts_with("slow-"), "{fault}: {text}");

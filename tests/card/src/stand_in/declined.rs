@@ -1,0 +1,44 @@
+//! What is said of a job that is declined, and the mistakes in the number and the position.
+
+use super::is;
+use independent::{job, Refusal};
+
+/// How many bytes of a line stand before its text.
+const HEAD: usize = 9;
+
+/// The refusal of a job, as it is rightly said or, for some mistakes, wrongly.
+pub fn said(job: &[u8], right: Refusal) -> Refusal {
+    let Refusal { number, place, position } = right;
+    let with_number = |number| Refusal { number, ..right };
+    let with_position = |position| Refusal { position, ..right };
+    let line = job.split(|&byte| byte == b'\n').nth(place.saturating_sub(1)).unwrap_or_default();
+    let (head, pairs) = line.split_at(line.len().min(HEAD));
+    match number {
+        12 if is("12-and-13-exchanged") => with_number(13),
+        13 if is("12-and-13-exchanged") => with_number(12),
+        12 if is("long-tone-is-14") && pairs.len() > 2 * 60 => with_number(14),
+        14 if is("14-after-6") => {
+            first_bad(head, &pairs[..2 * 60]).map_or(right, |position| Refusal { number: 6, place, position })
+        }
+        14 if is("position-with-14") => with_position(61),
+        6 if is("7-before-6") && head.ends_with(b"4 ") && pairs.ends_with(b"20") => Refusal::new(7, place),
+        6 if is("position-from-0") => with_position(position - 1),
+        6 if is("position-in-digits") => with_position(2 * position - 1),
+        6 if is("position-in-the-line") => with_position(HEAD + position),
+        6 if is("position-of-the-last") => last_bad(head, pairs).map_or(right, with_position),
+        7 if is("position-with-7") => with_position(pairs.len() / 2),
+        _ => right,
+    }
+}
+
+/// The position of a text's first bad character.
+fn first_bad(head: &[u8], pairs: &[u8]) -> Option<usize> {
+    let refusal = job::parse(&[head, pairs, b"\n"].concat()).err()?;
+    (refusal.number == 6).then_some(refusal.position)
+}
+
+/// The position of a text's last bad character, which is the first where the text is turned round.
+fn last_bad(head: &[u8], pairs: &[u8]) -> Option<usize> {
+    let turned: Vec<u8> = pairs.chunks(2).rev().flatten().copied().collect();
+    first_bad(head, &turned).map(|position| pairs.len() / 2 + 1 - position)
+}
