@@ -11,7 +11,7 @@ use borrow.Author.Tests.{le-ltb}
 use Rattle.job.specs.Job.{jobOf}
 use Rattle.job.specs.declared.JobAnswer.{JobAnswer}
 use Rattle.job.specs.declared.JobAnswer.the-variants.{Accepted, Refused}
-use Rattle.job.proofs.RefusalLaws.{refused-number}
+use Rattle.job.proofs.RefusalLaws.{refused-not}
 use Rattle.placement.specs.Placement.{batches}
 use Rattle.transmission.specs.Sending.{Sending, sendingsOf, placementOf}
 use Rattle.transmission.specs.Transmission.{wordCount}
@@ -26,7 +26,7 @@ use Rattle.guarantees.specs.Demand3.{OnlyRoom, Acceptance}
 by-number : (a : JobAnswer) (xs : List Sending) (words slots : ℕ) → OnlyRoom (answered a xs words slots) → (n : ℕ) × (a ≡ Accepted n)
 by-number (Accepted n) xs words slots h = (n, refl)
 by-number (Refused why place) xs words slots h =
-    absurd (⊎-elim (λ e. omega (arith, refused-number why .0)) (λ e. omega (arith, refused-number why .1)) h)
+    absurd (⊎-elim (refused-not 0 refl why) (refused-not 10 refl why) h)
 
 by-room : (short : Bool) (b m : ℕ) → OnlyRoom (cond short NoRoom (Sent b m))
 by-room true b m = inr refl
@@ -34,7 +34,7 @@ by-room false b m = inl refl
 
 by-report : (r : Report) → numberOf r ≡ 0 → (b : ℕ) × (m : ℕ) × (r ≡ Sent b m)
 by-report (Sent b m) e = (b, m, refl)
-by-report (Declined why place) e = absurd (omega (arith, refused-number why .0))
+by-report (Declined why place) e = absurd (refused-not 0 refl why e)
 by-report NoRoom e = absurd (omega arith)
 
 module _ (s : List ℕ) where

@@ -25,7 +25,7 @@ use Rattle.card.specs.declared.CardRefusal.{CardRefusal}
 use Rattle.card.specs.declared.CardStep.{CardStep}
 use Rattle.guarantees.specs.Demand3.{Call}
 use Rattle.guarantees.specs.Card.{CardSend, CardStart, CardStepCall, wordTold, doneTold, CardStepping, CardDemand3}
-use Rattle.job.proofs.RefusalLaws.{refused-number}
+use Rattle.job.proofs.RefusalLaws.{refused-not}
 use Rattle.guarantees.proofs.Demand3.{demand3}
 
 -- ---- sending
@@ -33,7 +33,7 @@ use Rattle.guarantees.proofs.Demand3.{demand3}
 -- number 0 is given for a report alone
 by-number : (a : Report) → reportFor a .number ≡ 0 → a ≡ Sent (reportFor a .batches) (reportFor a .words)
 by-number (Sent b m) e = refl
-by-number (Declined why place) e = absurd (omega (arith, refused-number why .0))
+by-number (Declined why place) e = absurd (refused-not 0 refl why e)
 by-number NoRoom e = absurd (omega arith)
 
 as-call : (s w₀ t₀ w t : List ℕ) (r : CardReport) → CardSend s w₀ t₀ r w t → r .number ≡ 0 → Call s w₀ t₀ (Sent (r .batches) (r .words)) w t
@@ -52,7 +52,7 @@ as-call s w₀ t₀ w t r call e =
 -- number 0 is given for an accepted job alone, and the state is then the job's own
 accepted : (a : JobAnswer) (new old : Sender) → refusalFor a .number ≡ 0 → (n : ℕ) × (a ≡ job-answer.Accepted n) × (stateFor a new old ≡ new)
 accepted (job-answer.Accepted n) new old e = (n, refl, refl)
-accepted (job-answer.Refused why place) new old e = absurd (omega (arith, refused-number why .0))
+accepted (job-answer.Refused why place) new old e = absurd (refused-not 0 refl why e)
 
 as-start : (s : List ℕ) (old : Sender) (r : CardRefusal) (u : Sender) → CardStart s old r u → r .number ≡ 0
     → (n : ℕ) × StartCall s (job-answer.Accepted n) u

@@ -8,7 +8,7 @@ use lib.Seq.{take-at}
 use Rattle.base.specs.Lists.{over}
 use Rattle.base.proofs.SearchLaws.{sum-cong, sum-zeros}
 use Rattle.codeword.proofs.NearestLaws.{distance-self}
-use Rattle.job.proofs.RefusalLaws.{refused-number}
+use Rattle.job.proofs.RefusalLaws.{refused-not}
 use Rattle.placement.specs.Placement.{batches}
 use Rattle.transmission.specs.Sending.{Sending, sendingsOf, placementOf}
 use Rattle.transmission.specs.Transmission.{transmissionOf}
@@ -64,7 +64,7 @@ by-list-job s old left n call =
 -- number 0 is given for a listing alone
 by-number : (a : Listed) → bytesFor a .number ≡ 0 → a ≡ Written (bytesFor a .bytes)
 by-number (Written n) e = refl
-by-number (Declined why place) e = absurd (omega (arith, refused-number why .0))
+by-number (Declined why place) e = absurd (refused-not 0 refl why e)
 by-number NoRoom e = absurd (omega arith)
 
 as-list-job : (s old left : List ℕ) (r : CardBytes) → CardList s old r left → r .number ≡ 0 → ListJob s old (Written (r .bytes)) left

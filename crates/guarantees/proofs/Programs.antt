@@ -9,11 +9,11 @@ use lib.Seq.{take-at}
 use borrow.Author.Tests.{le-ltb}
 use Rattle.base.proofs.SearchLaws.{le-or-lt}
 use Rattle.job.specs.Job.{jobOf}
-use Rattle.job.specs.Refusal.{jobNumber, jobPlace}
+use Rattle.job.specs.Refusal.{jobNumber, jobPlace, jobPosition}
 use Rattle.job.specs.declared.JobAnswer.{JobAnswer}
 use Rattle.job.specs.declared.JobAnswer.the-variants.{Accepted, Refused}
 use Rattle.job.proofs.Accepted.{accepted-short}
-use Rattle.job.proofs.RefusalLaws.{refused-number}
+use Rattle.job.proofs.RefusalLaws.{refused-not}
 use Rattle.transmission.specs.Sending.{sendingsOf}
 use Rattle.transmission.specs.Transmission.{transmissionOf}
 use Rattle.transmission.specs.Report as report
@@ -40,9 +40,9 @@ printed : (prints : List ℕ → List ℕ) {s old left : List ℕ} {n : ℕ} →
 printed prints {s} {old} {left} {n} call = ap (take n) (call .bytes) ∙ take-at (prints s) (drop (length (prints s)) old) n (sym (call .count))
 
 -- the sending program prints the job's own refusal, or its listing
-send-is : (s : List ℕ) → sendPrints s ≡ unlessLong s (answerText (jobNumber (jobOf s)) (jobPlace (jobOf s)) (listingText s))
+send-is : (s : List ℕ) → sendPrints s ≡ unlessLong s (answerText (jobNumber (jobOf s)) (jobPlace (jobOf s)) (jobPosition (jobOf s)) (listingText s))
 unfolding sendPrints
-send-is s = let e = listing.enough s 46062 (omega arith) in rw (e .0, e .1)
+send-is s = let e = listing.enough s 46062 (omega arith) in rw (e .0, e .1, e .2)
 
 send-listing : (s : List ℕ) (n : ℕ) → jobOf s ≡ Accepted n → sendPrints s ≡ listingText s
 send-listing s n ok = send-is s ∙ rw (le-ltb 65536 (length s) (omega (arith, accepted-short s n ok)), ok)
@@ -77,17 +77,17 @@ programs s n ok =
 
 job-number : (a : JobAnswer) → jobNumber a ≡ 10 → ⊥
 job-number (Accepted n) e = omega arith
-job-number (Refused why place) e = omega (arith, refused-number why .1)
+job-number (Refused why place) e = refused-not 10 refl why e
 
 sent-number : (s : List ℕ) (words slots : ℕ) → 5118 ≤ words → 48 ≤ slots → (a : JobAnswer) → jobOf s ≡ a → report.numberOf (reportOf s words slots) ≡ 10 → ⊥
 unfolding reportOf
 sent-number s words slots h k (Accepted n) e ten = omega (arith, acceptance s .enough n e words slots h k)
 sent-number s words slots h k (Refused why place) e ten =
     let is : report.numberOf (report.answered (Refused why place) (sendingsOf s) words slots) ≡ 10 = rw e at ten in
-    omega (arith, refused-number why .1)
+    refused-not 10 refl why is
 
 read-is : (s : List ℕ) (room : ℕ) → 48000 ≤ room
-    → readPrints s ≡ unlessLong s (answerText (numberOf (readListing s room)) (placeOf (readListing s room)) (linesRead (readListing s room) (wordsOf s)))
+    → readPrints s ≡ unlessLong s (answerText (numberOf (readListing s room)) (placeOf (readListing s room)) 0 (linesRead (readListing s room) (wordsOf s)))
 unfolding readPrints
 read-is s room h = rw (reading.listing-same s room h)
 

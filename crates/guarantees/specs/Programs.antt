@@ -6,7 +6,7 @@ use Prim.Native.Nat.{ℕ, _≤_}
 use lib.ListN.{length, take}
 use Rattle.base.specs.Lists.{over}
 use Rattle.job.specs.Job.{jobOf}
-use Rattle.job.specs.Refusal.{jobNumber, jobPlace}
+use Rattle.job.specs.Refusal.{jobNumber, jobPlace, jobPosition}
 use Rattle.job.specs.declared.JobAnswer.the-variants.{Accepted}
 use Rattle.transmission.specs.Sending.{sendingsOf}
 use Rattle.transmission.specs.Transmission.{transmissionOf}
@@ -55,7 +55,7 @@ pub record Sizes : Type 0 where
   pub lines-of-words : (words : List ℕ) (room : ℕ) → 48000 ≤ room → numberOf (readWords words room) ≡ 10 → ⊥
   pub lines-of-listing : (s : List ℕ) (room : ℕ) → 48000 ≤ room → numberOf (readListing s room) ≡ 10 → ⊥
   -- so the sending program prints number 24, or the job's own refusal, or its listing
-  pub sending-program : (s : List ℕ) → sendPrints s ≡ unlessLong s (answerText (jobNumber (jobOf s)) (jobPlace (jobOf s)) (listingText s))
+  pub sending-program : (s : List ℕ) → sendPrints s ≡ unlessLong s (answerText (jobNumber (jobOf s)) (jobPlace (jobOf s)) (jobPosition (jobOf s)) (listingText s))
   -- and a reading program what it would print with any more room
   pub reading-program : (s : List ℕ) (room : ℕ) → 48000 ≤ room
-      → readPrints s ≡ unlessLong s (answerText (numberOf (readListing s room)) (placeOf (readListing s room)) (linesRead (readListing s room) (wordsOf s)))
+      → readPrints s ≡ unlessLong s (answerText (numberOf (readListing s room)) (placeOf (readListing s room)) 0 (linesRead (readListing s room) (wordsOf s)))

@@ -8,7 +8,7 @@ use lib.ListN.{length}
 use lib.Dec.{ltb}
 use borrow.Author.Tests.{ltb-false, le-ltb}
 use Rattle.job.specs.Job.{jobOf}
-use Rattle.job.specs.Refusal.{jobNumber, jobPlace}
+use Rattle.job.specs.Refusal.{jobNumber, jobPlace, jobPosition}
 use Rattle.job.specs.declared.JobAnswer.{JobAnswer}
 use Rattle.job.specs.declared.JobAnswer.the-variants.{Accepted, Refused}
 use Rattle.listing.proofs.TextLaws.{text-length}
@@ -16,7 +16,7 @@ use Rattle.transmission.specs.Sending.{sendingsOf, placementOf}
 use Rattle.transmission.specs.Transmission.{codewordsOf, transmissionOf}
 use Rattle.transmission.proofs.Sendings.{accepted-sendings, sendings-limits}
 use Rattle.transmission.proofs.TransmissionLaws.{transmission-length}
-use Rattle.job_listing.specs.Listed.{listingText, answered, listedOf, numberOf, placeOf}
+use Rattle.job_listing.specs.Listed.{listingText, answered, listedOf, numberOf, placeOf, positionOf}
 use Rattle.job_listing.specs.Enough.{Enough}
 use Rattle.job_listing.specs.declared.Listed.the-variants.{Written, NoRoom}
 
@@ -45,8 +45,9 @@ listing-short s n e =
 
 enough-by : (s : List ℕ) (room : ℕ) → 46062 ≤ room → (a : JobAnswer) → jobOf s ≡ a
     → (numberOf (answered a room (listingText s)) ≡ jobNumber a) × (placeOf (answered a room (listingText s)) ≡ jobPlace a)
-enough-by s room h (Accepted n) e = let fits = le-ltb room (length (listingText s)) (omega (arith, listing-short s n e)) in (rw fits, rw fits)
-enough-by s room h (Refused why place) e = (refl, refl)
+    × (positionOf (answered a room (listingText s)) ≡ jobPosition a)
+enough-by s room h (Accepted n) e = let fits = le-ltb room (length (listingText s)) (omega (arith, listing-short s n e)) in (rw fits, rw fits, rw fits)
+enough-by s room h (Refused why place) e = (refl, refl, refl)
 
 pub enough : Enough
 unfolding listedOf

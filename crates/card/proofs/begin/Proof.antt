@@ -4,7 +4,7 @@ use mathlib.Core.List.{List}
 use Prim.Native.Nat.{ℕ}
 use denote.Ref.{now}
 use Rattle.job.specs.Job.{jobOf}
-use Rattle.job.specs.Refusal.{jobNumber, jobPlace}
+use Rattle.job.specs.Refusal.{jobNumber, jobPlace, jobPosition}
 use Rattle.job.specs.declared.Refusal.{Refusal}
 use Rattle.job.specs.declared.JobAnswer.{JobAnswer}
 use Rattle.job.specs.declared.JobAnswer.the-variants.{Accepted, Refused}
@@ -20,8 +20,9 @@ use Rattle.card.proofs.begin.Tie as tie
 
 -- what is answered where the job opens as o and its message words are then `words`, over a state that was old
 module _ (s : List ℕ) (old : Sender) {o : Opening} {words : List ℕ} (e : o ≡ openingOf (startedOf s)) (w : words ≡ wordsBy (jobOf s) (startedOf s .state .words) (old .words)) where
-  refusal : {place number : ℕ} → place ≡ jobPlace (o .answer) → number ≡ jobNumber (o .answer) → _≡_ {A = CardRefusal} (record { place = place; number = number }) (refusalFor (startedOf s .answer))
-  refusal p n = (λ i. record { place = p i; number = n i }) ∙ ap (λ (x : Opening). refusalFor (x .answer)) e
+  refusal : {place position number : ℕ} → place ≡ jobPlace (o .answer) → position ≡ jobPosition (o .answer) → number ≡ jobNumber (o .answer)
+      → _≡_ {A = CardRefusal} (record { place = place; position = position; number = number }) (refusalFor (startedOf s .answer))
+  refusal p q n = (λ i. record { place = p i; position = q i; number = n i }) ∙ ap (λ (x : Opening). refusalFor (x .answer)) e
 
   answer : (a : JobAnswer) → o .answer ≡ a → startedOf s .answer ≡ a
   answer a t = sym (ap (λ (x : Opening). x .answer) e) ∙ t
@@ -46,6 +47,9 @@ start-with-requires c κs = search needs
 place-requires : tie.Need-place-requires
 place-requires c κs = search needs
 
+position-requires : tie.Need-position-requires
+position-requires c κs = search needs
+
 number-requires : tie.Need-number-requires
 number-requires c κs = search needs
 
@@ -57,21 +61,22 @@ enum-told-2 c = search needs
 
 returns : tie.Need-returns
 returns c =
-    let a = c .before .before .before .before .before .before .before .before .before .before .args in
-    let s = c .before .before .before .before .before .before .before .start-with in
+    let a = c .before .before .before .before .before .before .before .before .before .before .before .args in
+    let s = c .before .before .before .before .before .before .before .before .start-with in
     let told = c .before .before .before .enum-told .given in
     let old = stateFrom (a .table) (a .sent) (a .cursor) (now (a .words)) in (
-      refusal (now (a .job)) old (s .ensures .0) (s .ensures .1) (c .before .before .before .before .before .before .place .ensures) (c .before .before .before .before .before .number .ensures),
+      refusal (now (a .job)) old (s .ensures .0) (s .ensures .1) (c .before .before .before .before .before .before .before .place .ensures) (c .before .before .before .before .before .before .position .ensures)
+          (c .before .before .before .before .before .number .ensures),
       accepts (now (a .job)) old (s .ensures .0) (s .ensures .1) (told .0 .0) (told .1),
     )
 
 returns-2 : tie.Need-returns-2
 returns-2 c =
-    let a = c .before .before .before .before .before .before .before .args in
-    let s = c .before .before .before .before .start-with in
+    let a = c .before .before .before .before .before .before .before .before .args in
+    let s = c .before .before .before .before .before .start-with in
     let told = c .enum-told2 .given in
     let old = stateFrom (a .table) (a .sent) (a .cursor) (now (a .words)) in (
-      refusal (now (a .job)) old (s .ensures .0) (s .ensures .1) (c .before .before .before .place .ensures) (c .before .before .number .ensures),
+      refusal (now (a .job)) old (s .ensures .0) (s .ensures .1) (c .before .before .before .before .place .ensures) (c .before .before .before .position .ensures) (c .before .before .number .ensures),
       declines (now (a .job)) old (s .ensures .0) (s .ensures .1) (told .0 .0) (told .0 .1 .0) (told .1),
     )
 
@@ -81,6 +86,7 @@ begin-spec =
     (tie.spec
     start-with-requires
     place-requires
+    position-requires
     number-requires
     enum-told
     enum-told-2
