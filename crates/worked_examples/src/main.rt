@@ -151,6 +151,8 @@ fn print_answer(answer: JobAnswer) {
             print_number(job::number(answer) as u64);
             print(b" place ");
             print_number(job::place(answer) as u64);
+            print(b" position ");
+            print_number(job::position(answer) as u64);
         }
     }
 }
