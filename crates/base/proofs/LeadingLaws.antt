@@ -7,7 +7,7 @@ use mathlib.Core.Bool.{Bool, true, false, cond}
 use mathlib.Core.Logic.{⊎-elim}
 use native.Mathlib.Numerals.{add-one}
 use native.Mathlib.Omega.{arith}
-use lib.ListN.{length, getD, take, drop, drop-of-length-le}
+use lib.ListN.{length, getD, drop, drop-of-length-le}
 use lib.Seq.{drop-cons}
 use Rattle.base.specs.Leading.{leading}
 use Rattle.base.proofs.Bools.{either}
@@ -28,6 +28,17 @@ module _ (p : ℕ → Bool) (s : List ℕ) (i : ℕ) where
 pub leading-le : (p : ℕ → Bool) (s : List ℕ) → leading p s ≤ length s
 leading-le p [] = omega arith
 leading-le p (b ∷ s) = ⊎-elim (λ e. rw e (let h = leading-le p s in omega arith)) (λ e. rw e (omega arith)) (either (p b))
+
+-- those that pass, and the one behind them
+pub leading-each : (p : ℕ → Bool) (s : List ℕ) (i : ℕ) → i < leading p s → p (getD s i 0) ≡ true
+leading-each p [] i h = absurd (omega arith)
+leading-each p (b ∷ s) zero h = ⊎-elim (λ (e : p b ≡ true). e) (λ (e : p b ≡ false). let g = rw e at h in absurd (omega arith)) (either (p b))
+leading-each p (b ∷ s) (suc i) h =
+    ⊎-elim (λ (e : p b ≡ true). let g = rw e at h in leading-each p s i (omega arith)) (λ (e : p b ≡ false). let g = rw e at h in absurd (omega arith)) (either (p b))
+
+pub leading-first : (p : ℕ → Bool) (s : List ℕ) → leading p s < length s → p (getD s (leading p s) 0) ≡ false
+leading-first p [] h = absurd (omega arith)
+leading-first p (b ∷ s) h = ⊎-elim (λ (e : p b ≡ true). let g = rw e at h in rw e (leading-first p s (omega arith))) (λ (e : p b ≡ false). rw e e) (either (p b))
 
 -- behind some that pass
 pub leading-behind : (p : ℕ → Bool) (s : List ℕ) (k : ℕ) → k ≤ leading p s → leading p s ≡ k + leading p (drop k s)

@@ -1,19 +1,19 @@
 -- Laws of the definitions of `specs/`: what a line and a job say, case by case. Assumes nothing.
-use Prim.Native.Nat.{ℕ, _+_, _-_, _*_, _%_, _≤_, _<_}
-use mathlib.Core.Path.{_≡_, sym, ap, _∙_}
+use Prim.Native.Nat.{ℕ, _+_, _-_, _%_, _≤_, _<_}
+use mathlib.Core.Path.{_≡_, ap, _∙_}
 use mathlib.Core.List.{List, [], _∷_}
-use mathlib.Core.Bool.{true, false, not}
+use mathlib.Core.Bool.{true, not}
 use mathlib.Core.Logic.{⊎-elim}
 use native.Mathlib.Omega.{arith}
 use lib.ListN.{length, take, drop, length-drop}
 use lib.Seq.{length-take-le}
 use lib.Dec.{leb, eqb}
-use borrow.Author.Tests.{le-leb, lt-leb, lt-ltb, le-ltb, eq-eqb, ne-eqb, leb-true, eqb-true, eqb-false}
+use borrow.Author.Tests.{le-leb, lt-leb, ne-eqb, leb-true, eqb-true}
 use native.Mathlib.Nat.{eq-or-lt-of-le}
 use Rattle.base.specs.Hex.{isHex, bytesOf}
 use Rattle.base.specs.Leading.{leading}
 use Rattle.base.specs.Lines.{split, lineEnd}
-use Rattle.base.proofs.Bools.{and-true, and-both}
+use Rattle.base.proofs.Bools.{and-true}
 use Rattle.base.proofs.HexLaws.{bytes-length}
 use Rattle.base.proofs.LeadingLaws.{leading-le}
 use Rattle.base.proofs.LinesLaws.{end-after, end-inside, none-left, cut, uncut}

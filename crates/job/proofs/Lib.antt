@@ -6,3 +6,4 @@ pub mod PrintLaws
 pub mod RefusalLaws
 pub mod Printed
 pub mod Settled
+pub mod FirstBad

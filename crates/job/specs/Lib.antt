@@ -6,3 +6,4 @@ pub mod Accepted
 pub mod Print
 pub mod PrintsBack
 pub mod Settled
+pub mod FirstBad

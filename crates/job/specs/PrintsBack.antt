@@ -6,7 +6,7 @@ use mathlib.Core.List.{List, [], _∷_, _++_}
 use lib.ListN.{length, take, drop}
 use Rattle.base.specs.Lines.{split, lineAt}
 use Rattle.job.specs.Line.{identityOf, kindOf, textPairs}
-use Rattle.job.specs.Pages.{Page, pageAt}
+use Rattle.job.specs.Pages.{pageAt}
 use Rattle.job.specs.Accepted.{Sound, AcceptedJob}
 use Rattle.job.specs.Print.{printed}
 

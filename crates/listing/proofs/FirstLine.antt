@@ -6,7 +6,7 @@ use mathlib.Core.Bool.{Bool, true, false, _&&_}
 use mathlib.Core.Logic.{_⊎_, inl, inr, ⊎-elim}
 use native.Mathlib.Nat.{eq-or-lt-of-le}
 use native.Mathlib.Omega.{arith}
-use borrow.Author.Tests.{eq-eqb, ne-eqb, eqb-true, eqb-false, leb-true, leb-false}
+use borrow.Author.Tests.{not-false, eq-eqb, ne-eqb, eqb-true, eqb-false, leb-true, leb-false}
 use lib.Dec.{eqb, leb}
 use lib.ListN.{length, getD, take, drop, length-drop, List·getD-eq-default}
 use lib.Seq.{length-take-le, take-take, getD-take, getD-drop, drop-drop, drop-cons}
@@ -16,7 +16,7 @@ use Rattle.base.specs.Lines.{Lines, behind, line, split, lineAt, notNewline, li
 use Rattle.base.specs.declared.HexWord.the-variants.{Number, NotHex}
 use Rattle.base.proofs.Bools.{either, true-false, and-true, and-false}
 use Rattle.base.proofs.HexLaws.{number-word, none-word, number-fits}
-use Rattle.base.proofs.LeadingLaws.{leading-le}
+use Rattle.base.proofs.LeadingLaws.{leading-le, leading-first}
 use Rattle.base.proofs.LinesLaws.{cut, uncut}
 use Rattle.base.proofs.ListLaws.{drop-take}
 use Rattle.listing.specs.Listing.{isWord, hasOne, hasTwo}
@@ -46,12 +46,7 @@ inside d n v e h =
 
 -- the byte that stops the count is the newline
 newline-at : (s : List ℕ) → leading notNewline s < length s → getD s (leading notNewline s) 0 ≡ 10
-newline-at [] h = absurd (omega arith)
-newline-at (b ∷ s) h =
-    ⊎-elim
-    (λ (e : eqb b 10 ≡ true). simp e (eqb-true b 10 e))
-    (λ (e : eqb b 10 ≡ false). let h' = simp e at h in simp e (newline-at s (omega arith)))
-    (either (eqb b 10))
+newline-at s h = eqb-true _ 10 (not-false _ (leading-first notNewline s h))
 
 -- a digit is no newline
 hex-not-newline : (b : ℕ) → isHex b ≡ true → eqb b 10 ≡ false
