@@ -45,10 +45,10 @@ extern "C" {
 #define CARD_LINES_BYTES 48000      /* bytes of the page lines of 300 batches */
 #define CARD_MESSAGE_WORDS 4032     /* message codewords of a job */
 
-/* Why work is declined, and the place that comes with the number. A job's own numbers, 9 the last of them, stand here in the order of
- * the tests. The first faulty line decides, and in it the first of 1, 2, 3, 4, then 12, 13 or 14, then 6, 7; but a 49th line is 8
- * whatever it holds; then 9, then 10. Of a listing the first line that gives 21 or 23, then the first 22, then 10; of words 21, 23,
- * 22, 10. (The programs have one number more, 24.)
+/* Why work is declined, and the place that comes with the number. A job's own numbers, 9 the last of them, stand here first, a
+ * line's in the order of their rank. The first faulty line decides, and in it the first of 1, 2, 3, 4, then 12, 13 or 14, then 6, 7;
+ * but a 49th line is 8 whatever it holds; then 9, then 10. Of a listing the first line that gives 21 or 23, then the first 22, then
+ * 10; of words 21, 23, 22, 10. (The programs have one number more, 24.)
  *
  * A call that takes a job also answers a position: with number 6 that of the first bad character of the text, counted in characters
  * from 1; 0 with every other number and where nothing is declined. */

@@ -17,7 +17,7 @@ ghost use Rattle.job.specs.declared.Refusal.the-variants.{Malformed};
 ghost use Rattle.job.specs.declared.LineAnswer.the-variants.{Faulty};
 use text::Coding;
 
-// Why a job is declined, in the order of the tests.
+// Why a job is declined: a line's refusals in the order of their rank, then the two of the whole job.
 pub enum Refusal {
     Malformed,
     IdentityRange,

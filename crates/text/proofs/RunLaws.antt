@@ -2,22 +2,18 @@
 use Prim.Native.Nat.{ℕ, suc, _+_, _*_, _/_, _≤_, _<_}
 use mathlib.Core.Path.{_≡_, refl}
 use mathlib.Core.List.{List, [], _∷_}
-use mathlib.Core.Bool.{Bool, true, false, cond, _&&_}
+use mathlib.Core.Bool.{true, false, cond}
 use mathlib.Core.Logic.{⊎-elim}
 use native.Mathlib.Numerals.{add-one}
 use native.Mathlib.Omega.{arith}
 use lib.ListN.{length, getD, drop, length-drop}
 use lib.Seq.{drop-cons}
-use Rattle.base.specs.Hex.{isHex, hexOf, bytesOf}
+use Rattle.base.specs.Hex.{isHex, bytesOf}
 use Rattle.base.specs.Leading.{leading}
 use Rattle.base.proofs.Bools.{either, and-true}
 use Rattle.base.proofs.LeadingLaws.{leading-cons}
-use Rattle.text.specs.Coding.{charOk, charRun}
+use Rattle.text.specs.Coding.{charOk, pairOk, charRun}
 use Rattle.text.specs.declared.Coding.{Coding}
-
--- whether two digits write a character
-abbrev pub pairOk : Coding → ℕ → ℕ → Bool
-pairOk c h l = isHex h && (isHex l && charOk c (hexOf h * 16 + hexOf l))
 
 module _ (c : Coding) where
   -- its pairs are digits

@@ -31,11 +31,15 @@ abbrev pub charOk : Coding → ℕ → Bool
 charOk Numeric b = isNumeric b
 charOk Alphanumeric b = between 1 127 b && not (between 3 4 b)
 
+-- whether two bytes are digits that write a character
+abbrev pub pairOk : Coding → ℕ → ℕ → Bool
+pairOk c h l = isHex h && (isHex l && charOk c (hexOf h * 16 + hexOf l))
+
 -- how many characters a text begins with, each written as a pair of digits
 unfoldable pub charRun : Coding → List ℕ → ℕ
 charRun c [] = 0
 charRun c (h ∷ []) = 0
-charRun c (h ∷ l ∷ s) = cond (isHex h && (isHex l && charOk c (hexOf h * 16 + hexOf l))) (suc (charRun c s)) 0
+charRun c (h ∷ l ∷ s) = cond (pairOk c h l) (suc (charRun c s)) 0
 
 -- whether a numeric text ends in a space, which reading would drop (number 7); an alphanumeric one may
 unfoldable pub endsInSpace : Coding → List ℕ → Bool

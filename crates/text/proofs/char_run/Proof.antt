@@ -11,11 +11,11 @@ use lib.ListN.{length, drop}
 use denote.Ref.{now}
 use borrow.Author.Tests.{not-true, not-false}
 use Rattle.base.specs.Hex.{isHex, hexOf, digitValue}
-use Rattle.text.specs.Coding.{charOk, charRun}
+use Rattle.text.specs.Coding.{charOk, pairOk, charRun}
 use Rattle.text.specs.declared.Coding.{Coding}
 use Rattle.base.proofs.Bools.{and-both, and-false, either}
 use Rattle.base.proofs.HexLaws.{hex-small, value-some}
-use Rattle.text.proofs.RunLaws.{pairOk, run-more, run-stop, run-end}
+use Rattle.text.proofs.RunLaws.{run-more, run-stop, run-end}
 use Rattle.text.proofs.char_run.Statement.{statement}
 use Rattle.text.proofs.char_run.Tie as tie
 
