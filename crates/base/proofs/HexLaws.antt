@@ -141,7 +141,7 @@ pub number-low : (n b : ℕ) (s : List ℕ) → hexNumber (n * 16 + hexOf b) s %
 number-low n b s = number-cong (n * 16 + hexOf b) (n % 268435456 * 16 + hexOf b) s (omega arith)
 
 -- digits have room for so much, and up to eight fit 32 bits
-number-lt : (n : ℕ) (s : List ℕ) → hexNumber n s < (n + 1) * 16 ^ length s
+pub number-lt : (n : ℕ) (s : List ℕ) → hexNumber n s < (n + 1) * 16 ^ length s
 number-lt n [] = omega arith
 number-lt n (b ∷ s) =
     let room : (n * 16 + hexOf b + 1) * 16 ^ length s ≤ (n + 1) * 16 * 16 ^ length s = mul-le-mul-right (16 ^ length s) (omega (arith, hex-small b)) in

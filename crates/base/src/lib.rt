@@ -1,7 +1,7 @@
-// What every floor of the library stands on: upper-case hexadecimal digits both ways, and lines.
+// What every floor of the library stands on: upper-case hexadecimal digits both ways, lines, and parts of slices.
 ghost use mathlib.Core.Path.{_≡_};
 ghost use Prim.Native.Nat.{_%_, _^_};
-ghost use lib.ListN.{length, getD};
+ghost use lib.ListN.{length, getD, take, drop};
 ghost use Rattle.base.specs.Hex.{isHex, hexOf, digitValue, digitOf, hexNumber, hexWord, digitsOf, bytesOf};
 ghost use Rattle.base.specs.Leading.{leading};
 ghost use Rattle.base.specs.Lines.{lineEnd};
@@ -145,4 +145,19 @@ pub fn line_end(s: &[u8], at: usize) -> usize
         i += 1;
     }
     i
+}
+
+// A part of a slice: so many bytes from start on, or what is left of them.
+pub fn part(s: &[u8], start: usize, length: usize) -> &[u8]
+    ensures { λ r. ⌜ now r ≡ take length (drop start (now (s .entry))) ⌝ }
+{
+    if s.len() < start {
+        return &s[..0];
+    }
+    let left = s.len() - start;
+    if left < length {
+        return &s[start..];
+    }
+    let end = start + length;
+    &s[start..end]
 }

@@ -19,6 +19,7 @@ use Rattle.base.proofs.Bools.{and-true, or-true}
 use Rattle.base.proofs.HexLaws.{pairs-back}
 use Rattle.base.proofs.SearchLaws.{le-or-lt}
 use Rattle.text.specs.Coding.{groupsIn}
+use Rattle.text.specs.Fives.{fives}
 use Rattle.text.specs.Heard.{trimmed, heardText}
 use Rattle.text.specs.declared.Coding.{Coding}
 use Rattle.text.specs.declared.Coding.the-variants.{Numeric, Alphanumeric}
@@ -34,7 +35,7 @@ use Rattle.job.proofs.Accepted.{accepted-job}
 use Rattle.job.proofs.Printed.{line-printed}
 use Rattle.transmission.specs.Sending.{sendingFrom}
 use Rattle.transmission.proofs.Sendings.{sending-at}
-use Rattle.reader.specs.Lines.{kindHeard, fives, digitsHeard, lineHeard}
+use Rattle.reader.specs.Lines.{kindHeard, digitsHeard, lineHeard}
 use Rattle.guarantees.specs.Transport.{hearingOf}
 use Rattle.guarantees.specs.Demand2.{LineBack}
 

@@ -9,10 +9,10 @@ use lib.ListN.{length, getD, take, drop, length-append, length-drop}
 use lib.Seq.{take-suc, take-all, length-take-le}
 use Rattle.base.specs.Hex.{digitsOf}
 use Rattle.base.specs.Lists.{over}
-use Rattle.base.proofs.HexLaws.{digits-length}
 use Rattle.base.proofs.ListLaws.{over-part, over-length}
+use Rattle.text.specs.Fives.{fives}
 use Rattle.reader.specs.Reading.{Hearing}
-use Rattle.reader.specs.Lines.{fives, lineHeard, linesHeard}
+use Rattle.reader.specs.Lines.{lineHeard, linesHeard}
 
 pub flat-append : {A : Type 0} (f : A → List ℕ) (xs ys : List A) → flatMap f (xs ++ ys) ≡ flatMap f xs ++ flatMap f ys
 unfolding flatMap
@@ -77,9 +77,6 @@ pub fives-flat : (gs : List ℕ) → fives gs ≡ flatMap (digitsOf 5) gs
 unfolding fives flatMap
 fives-flat [] = refl
 fives-flat (g ∷ gs) = ap (λ (l : List ℕ). digitsOf 5 g ++ l) (fives-flat gs)
-
-pub fives-length : (gs : List ℕ) → length (fives gs) ≡ 5 * length gs
-fives-length gs = ap length (fives-flat gs) ∙ flat-length (digitsOf 5) 5 (digits-length 5) gs
 
 lines-flat : (hs : List Hearing) → linesHeard hs ≡ flatMap lineHeard hs
 unfolding linesHeard flatMap

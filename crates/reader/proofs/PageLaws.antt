@@ -14,10 +14,12 @@ use Rattle.base.specs.Hex.{digitsOf, pairsOf}
 use Rattle.base.specs.Lists.{over, tab}
 use Rattle.base.proofs.ListLaws.{tab-same}
 use Rattle.text.specs.Coding.{widthOf}
+use Rattle.text.specs.Fives.{fives}
 use Rattle.text.specs.Heard.{bitIn, charHeard, shown, charsIn, wholeIn, trimmed, untilEnd, heardText}
 use Rattle.text.specs.declared.Coding.{Coding}
 use Rattle.text.specs.declared.Coding.the-variants.{Numeric, Alphanumeric}
 use Rattle.text.proofs.BitLaws.{low-same, cut-bit}
+use Rattle.text.proofs.FivesBack.{fives-length}
 use Rattle.text.proofs.HeardLaws.{heard-fits}
 use Rattle.text.proofs.PairLaws.{pairs-length}
 use Rattle.job.specs.Print.{ending, printed, printingOf, bytesPrinted}
@@ -26,9 +28,8 @@ use Rattle.job.specs.declared.Printing.the-variants.{Printed, NoRoom}
 use Rattle.job.proofs.PrintLaws.{spaced-few, ending-few, printed-length}
 use Rattle.placement.specs.Placement.{frameOf}
 use Rattle.reader.specs.Reading.{closedAs}
-use Rattle.reader.specs.Lines.{kindHeard, fives, digitsHeard, lineHeard}
+use Rattle.reader.specs.Lines.{kindHeard, digitsHeard, lineHeard}
 use Rattle.reader.specs.Symbols.{groupsSaid, pageIn}
-use Rattle.reader.proofs.Blocks.{fives-length}
 
 -- ---- the kind
 

@@ -3,8 +3,8 @@ use mathlib.Core.Bool.{cond}
 use mathlib.Core.List.{List, [], _∷_, _++_}
 use Prim.Native.Nat.{ℕ, _+_}
 use lib.Dec.{eqb}
-use Rattle.base.specs.Hex.{digitsOf}
 use Rattle.text.specs.Answer.{heardDigits}
+use Rattle.text.specs.Fives.{fives}
 use Rattle.text.specs.declared.Coding.the-variants.{Numeric, Alphanumeric}
 use Rattle.job.specs.Print.{printed}
 use Rattle.reader.specs.Reading.{Hearing}
@@ -13,11 +13,6 @@ use Rattle.reader.specs.Reading.{Hearing}
 abbrev pub kindHeard : ℕ → List ℕ → ℕ
 kindHeard f [] = f
 kindHeard f (g ∷ gs) = cond (eqb f 0) 4 (cond (eqb f 3) 5 (f + 5))
-
--- five digits a group
-unfoldable pub fives : List ℕ → List ℕ
-fives [] = []
-fives (g ∷ gs) = digitsOf 5 g ++ fives gs
 
 -- the digits of its text: pairs for numeric and alphanumeric characters, five digits a word behind functions 1 and 2
 abbrev pub digitsHeard : ℕ → List ℕ → List ℕ

@@ -6,3 +6,4 @@ pub mod Answer
 pub mod Back
 pub mod Front
 pub mod Window
+pub mod Fives

@@ -1,5 +1,5 @@
-// The characters of a page's text and its 20-bit message groups (document 01, "Texts").
-// A text is handed in as it stands in a job: pairs of upper-case hexadecimal digits.
+// The characters of a page's text and its 20-bit message groups (document 01, "Texts"), and the groups of data (request R-11).
+// A text is handed in as it stands in a job: pairs of upper-case hexadecimal digits; data in fives of them.
 ghost use mathlib.Core.Path.{_≡_};
 ghost use Prim.Native.Nat.{_*_, _%_, _≤_, _<_};
 ghost use lib.ListN.{length, getD, take};
@@ -7,6 +7,7 @@ ghost use Rattle.base.specs.Hex.{hexOf, digitOf, bytesOf};
 ghost use Rattle.base.specs.Lists.{over, tab};
 ghost use Rattle.text.specs.Numeric.{numericOf, numericByte};
 ghost use Rattle.text.specs.Coding.{isNumeric, charOk, charRun, endsInSpace, widthOf, fillOf, valueOf, turnedOf, groupOf, groupsOf};
+ghost use Rattle.text.specs.Fives.{fiveAt};
 ghost use Rattle.text.specs.Packing.{Few, Refilled};
 ghost use Rattle.text.specs.Heard.{charHeard, ends, heardText};
 ghost use Rattle.text.specs.Answer.{heardDigits, heardInto, countOf};
@@ -247,6 +248,19 @@ pub fn write_groups(c: Coding, text: &[u8], groups: &mut [u32])
         groups[g] = (b.window >> rest) as u32;
         b.window = b.window % (1 << rest);
         b.have = rest;
+        g += 1;
+    }
+}
+
+// Fills a slice with the first groups of data, five digits each. Where the digits run out a group is the number that those left write, 0
+// where none are.
+pub fn write_fives(digits: &[u8], groups: &mut [u32])
+    ensures { λ _. ⌜ now (groups .exit) ≡ tab (fiveAt (now (digits .entry))) (length (now (groups .entry))) ⌝ }
+{
+    let count = groups.len();
+    let mut g = 0;
+    while g < count {
+        groups[g] = base::hex_number(base::part(digits, 5 * g, 5));
         g += 1;
     }
 }
