@@ -23,19 +23,19 @@ drop-take (suc m) (suc n) (x ∷ l) = let e : suc n - suc m ≡ n - m = omega ar
 -- ---- filling loops
 
 -- old with its first i elements replaced by those of new
-abbrev pub filled : List ℕ → List ℕ → ℕ → List ℕ
+abbrev pub filled {ℓ} : {A : Type ℓ} → List A → List A → ℕ → List A
 filled old new i = take i new ++ drop i old
 
-filled-suc : (old new : List ℕ) (i : ℕ) → i < length old → i < length new → set (filled old new i) i (getD new i 0) ≡ filled old new (suc i)
-filled-suc [] new i l m = absurd (not-suc-le-zero l)
-filled-suc (y ∷ old) [] i l m = absurd (not-suc-le-zero m)
-filled-suc (y ∷ old) (x ∷ new) zero l m = refl
-filled-suc (y ∷ old) (x ∷ new) (suc i) l m = ap (λ (t : List ℕ). x ∷ t) (filled-suc old new i (le-of-suc-le-suc l) (le-of-suc-le-suc m))
+pub filled-suc {ℓ} : {A : Type ℓ} (old new : List A) (i : ℕ) (d : A) → i < length old → i < length new → set (filled old new i) i (getD new i d) ≡ filled old new (suc i)
+filled-suc [] new i d l m = absurd (not-suc-le-zero l)
+filled-suc (y ∷ old) [] i d l m = absurd (not-suc-le-zero m)
+filled-suc (y ∷ old) (x ∷ new) zero d l m = refl
+filled-suc (y ∷ old) (x ∷ new) (suc i) d l m = ap (_∷_ x) (filled-suc old new i d (le-of-suc-le-suc l) (le-of-suc-le-suc m))
 
 -- a turn of the loop: v goes into place i
 pub filled-turn : (old new : List ℕ) (i : ℕ) {l : List ℕ} {v : ℕ} → l ≡ filled old new i → i < length old → i < length new → v ≡ getD new i 0
     → set l i v ≡ filled old new (i + 1)
-filled-turn old new i e h m q = rw (q, e, add-one) (filled-suc old new i h m)
+filled-turn old new i e h m q = rw (q, e, add-one) (filled-suc old new i 0 h m)
 
 -- its end: the new elements over the old ones
 pub filled-over : (old new : List ℕ) → filled old new (length new) ≡ over old new
@@ -47,14 +47,15 @@ filled-length [] new (suc i) h m = absurd (not-suc-le-zero h)
 filled-length (y ∷ old) [] (suc i) h m = absurd (not-suc-le-zero m)
 filled-length (y ∷ old) (x ∷ new) (suc i) h m = ap suc (filled-length old new i (le-of-suc-le-suc h) (le-of-suc-le-suc m))
 
-zeros-left : (n k : ℕ) → drop {A = ℕ} k (replicate n 0) ≡ replicate (n - k) 0
-zeros-left n zero = let e : n - 0 ≡ n = omega arith in rw e
-zeros-left zero (suc k) = let e : 0 - suc k ≡ 0 = omega arith in rw e
-zeros-left (suc n) (suc k) = let e : suc n - suc k ≡ n - k = omega arith in rw e (zeros-left n k)
+-- what is left of an array of equal elements
+pub equal-left {ℓ} : {A : Type ℓ} (d : A) (n k : ℕ) → drop k (replicate n d) ≡ replicate (n - k) d
+equal-left d n zero = let e : n - 0 ≡ n = omega arith in rw e
+equal-left d zero (suc k) = let e : 0 - suc k ≡ 0 = omega arith in rw e
+equal-left d (suc n) (suc k) = let e : suc n - suc k ≡ n - k = omega arith in rw e (equal-left d n k)
 
 -- an array of zeros with elements over it
 pub over-zeros : (n : ℕ) (xs : List ℕ) → over (replicate n 0) xs ≡ padded n xs
-over-zeros n xs = ap (λ (t : List ℕ). xs ++ t) (zeros-left n (length xs))
+over-zeros n xs = ap (λ (t : List ℕ). xs ++ t) (equal-left 0 n (length xs))
 
 -- ---- writing on behind what is written already
 

@@ -6,11 +6,12 @@ use Prim.Native.Nat.{ℕ, _≤_, _<_}
 use native.Mathlib.Omega.{arith}
 use lib.ListN.{length}
 use borrow.Author.Tests.{le-leb, lt-leb, ne-eqb, eq-eqb}
+use Rattle.base.specs.Hex.{bytesOf}
 use Rattle.base.proofs.SearchLaws.{le-or-lt}
 use Rattle.text.specs.Coding.{groupsOf}
 use Rattle.text.proofs.GroupLaws.{groups-length}
 use Rattle.job.specs.Line.{codingOf}
-use Rattle.job.specs.Pages.{pageAt}
+use Rattle.job.specs.Pages.{pageAt, digitsAt}
 use Rattle.job.specs.Job.{jobOf}
 use Rattle.job.specs.declared.JobAnswer.the-variants.{Accepted}
 use Rattle.job.proofs.Accepted.{accepted-job}
@@ -39,8 +40,8 @@ module _ (s : List ℕ) (n : ℕ) (ok : jobOf s ≡ Accepted n) where
       let a = accepted-job s n ok in
       let p = a .page i l in
       let q = a .sound i l in
-      groups-length (codingOf (pageAt s i .kind)) (pageAt s i .text)
-      ∙ count-of (pageAt s i .kind) (length (pageAt s i .text)) (rw (p .kind-is) (q .known)) (rw (p .kind-is, p .text-is) (q .tone))
+      groups-length (codingOf (pageAt s i .kind)) (bytesOf (digitsAt s i))
+      ∙ count-of (pageAt s i .kind) (length (bytesOf (digitsAt s i))) (rw (p .kind-is) (q .known)) (rw (p .kind-is, p .digits-are) (q .tone))
 
   -- the same of its sending
   pub sent-count : (i : ℕ) → i < n → length (sendingAt (sendingsOf s) i .groups) ≡ count s i

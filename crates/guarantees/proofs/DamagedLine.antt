@@ -9,13 +9,13 @@ use lib.Dec.{ltb}
 use lib.ListN.{length, take, length-take}
 use lib.Seq.{take-all}
 use borrow.Author.Tests.{lt-ltb, le-ltb, ltb-true, ltb-false}
-use Rattle.base.specs.Hex.{pairsOf}
+use Rattle.base.specs.Hex.{bytesOf, pairsOf}
 use Rattle.base.proofs.Bools.{true-false}
 use Rattle.base.proofs.SearchLaws.{Least, least-is, least-only, le-or-lt}
 use Rattle.text.specs.Heard.{heardText}
 use Rattle.text.proofs.TextFront.{text-front}
 use Rattle.job.specs.Line.{codingOf, functionOf}
-use Rattle.job.specs.Pages.{pageAt}
+use Rattle.job.specs.Pages.{pageAt, digitsAt}
 use Rattle.job.specs.Print.{printed}
 use Rattle.job.specs.Job.{jobOf}
 use Rattle.job.specs.declared.JobAnswer.the-variants.{Accepted}
@@ -98,7 +98,7 @@ module _ (s : List ℕ) (n : ℕ) (ok : jobOf s ≡ Accepted n) (most : ℕ) (th
   abbrev groups : List ℕ
   groups = take (m - 1) (page s i .groups)
 
-  back : HeardBack kind (pageAt s i .text)
+  back : HeardBack kind (bytesOf (digitsAt s i))
   back = page-back s n ok i l
 
   seen : Shown kind groups

@@ -26,7 +26,7 @@ use Rattle.text.specs.declared.Coding.the-variants.{Numeric, Alphanumeric}
 use Rattle.text.proofs.GroupLaws.{groups-length}
 use Rattle.text.proofs.TextBack.{text-back}
 use Rattle.job.specs.Line.{allHex, isPairs, headFormed, tailFormed, wellFormed, codingOf, functionOf, identityOf, kindOf, textPairs, textOf}
-use Rattle.job.specs.Pages.{pageAt}
+use Rattle.job.specs.Pages.{pageAt, digitsAt}
 use Rattle.job.specs.Print.{printed}
 use Rattle.job.specs.Job.{jobOf}
 use Rattle.job.specs.declared.JobAnswer.the-variants.{Accepted}
@@ -143,15 +143,15 @@ heard-back l s =
       back = text-back (codingOf (kindOf l)) (textOf l) (s .chars) (s .unspaced);
     }
 
-pub page-back : (s : List ℕ) (n : ℕ) → jobOf s ≡ Accepted n → (p : ℕ) → p < n → HeardBack (pageAt s p .kind) (pageAt s p .text)
+pub page-back : (s : List ℕ) (n : ℕ) → jobOf s ≡ Accepted n → (p : ℕ) → p < n → HeardBack (pageAt s p .kind) (bytesOf (digitsAt s p))
 page-back s n ok p h =
     let a = accepted-job s n ok in
     let r = a .page p h in
-    rw (r .kind-is, r .text-is) (heard-back (lineAt p (split s)) (a .sound p h))
+    rw (r .kind-is, r .digits-are) (heard-back (lineAt p (split s)) (a .sound p h))
 
 -- ---- the line
 
-line-heard : (l : List ℕ) → Sound l → lineHeard (hearingOf (sendingFrom (identityOf l) (kindOf l) (textOf l))) ≡ l ++ (10 ∷ [])
+line-heard : (l : List ℕ) → Sound l → lineHeard (hearingOf (sendingFrom (identityOf l) (kindOf l) (textPairs l))) ≡ l ++ (10 ∷ [])
 line-heard l s =
     let gs = groupsIn (codingOf (kindOf l)) (textOf l) in
     let t = heard-back l s in
@@ -168,4 +168,4 @@ pub line-back : LineBack
 line-back s n ok p h =
     let a = accepted-job s n ok in
     let r = a .page p h in
-    rw (sending-at s p, r .identity-is, r .kind-is, r .text-is) (line-heard (lineAt p (split s)) (a .sound p h))
+    rw (sending-at s p, r .identity-is, r .kind-is, r .digits-are) (line-heard (lineAt p (split s)) (a .sound p h))

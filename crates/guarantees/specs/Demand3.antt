@@ -7,10 +7,11 @@ use mathlib.Core.Logic.{_⊎_}
 use Prim.Native.Nat.{ℕ, _+_, _-_, _*_, _/_, _^_, _≤_, _<_}
 use lib.ListN.{length, getD, take}
 use lib.Dec.{eqb, leb}
+use Rattle.base.specs.Hex.{bytesOf}
 use Rattle.base.specs.Lists.{over}
 use Rattle.base.specs.Search.{sum}
 use Rattle.codeword.specs.Code as code
-use Rattle.job.specs.Pages.{pageAt}
+use Rattle.job.specs.Pages.{pageAt, digitsAt}
 use Rattle.job.specs.Job.{jobOf}
 use Rattle.job.specs.declared.JobAnswer.{JobAnswer}
 use Rattle.job.specs.declared.JobAnswer.the-variants.{Accepted}
@@ -52,7 +53,7 @@ pub record Call (s w₀ t₀ : List ℕ) (r : Report) (w t : List ℕ) : Type 0 
 
 -- page i of a job as it is sent: identity, function, 20-bit groups
 abbrev pub page : List ℕ → ℕ → Sending
-page s i = sendingOf (pageAt s i)
+page s i = sendingOf s (pageAt s i)
 
 -- the message codewords of a page of a kind with c characters: none for a tone, c / 5 for numeric ones, 7 c / 20 for alphanumeric ones, each rounded up
 unfoldable pub messageCount : ℕ → ℕ → ℕ
@@ -60,7 +61,7 @@ messageCount kind c = cond (leb kind 3) 0 (cond (eqb kind 4) ((c + 4) / 5) ((7 *
 
 -- those of page i
 abbrev pub count : List ℕ → ℕ → ℕ
-count s i = messageCount (pageAt s i .kind) (length (pageAt s i .text))
+count s i = messageCount (pageAt s i .kind) (length (bytesOf (digitsAt s i)))
 
 -- the slot that is reported for page i
 abbrev pub slot : List ℕ → ℕ → ℕ

@@ -6,12 +6,12 @@ use mathlib.Core.List.{List, [], _∷_, flatMap}
 use Prim.Native.Nat.{ℕ, _+_, _*_, _≤_, _<_}
 use lib.Dec.{eqb}
 use lib.ListN.{length, getD, take, drop}
-use Rattle.base.specs.Hex.{pairsOf}
+use Rattle.base.specs.Hex.{bytesOf, pairsOf}
 use Rattle.base.specs.Lists.{Begins}
 use Rattle.codeword.specs.Nearest.{nearest}
 use Rattle.text.specs.Heard.{heardText}
 use Rattle.job.specs.Line.{codingOf, functionOf}
-use Rattle.job.specs.Pages.{pageAt}
+use Rattle.job.specs.Pages.{pageAt, digitsAt}
 use Rattle.job.specs.Print.{printed}
 use Rattle.job.specs.Job.{jobOf}
 use Rattle.job.specs.declared.JobAnswer.the-variants.{Accepted}
@@ -78,7 +78,7 @@ pub record Cut (s words : List ℕ) (i : ℕ) (line : List ℕ) : Type 0 where
   pub line-is : line ≡ printed (pageAt s i .identity) kind (pairsOf text) true
   -- the text is that of the message words that are read, and begins the page's text
   pub text-is : text ≡ heardText (codingOf (pageAt s i .kind)) (take read (page s i .groups))
-  pub begins : Begins text (pageAt s i .text)
+  pub begins : Begins text (bytesOf (digitsAt s i))
   -- where no message word is read the kind is the function's tone, else that of the undamaged line
   pub tone : read ≡ 0 → kind ≡ functionOf (pageAt s i .kind)
   pub same : 0 < read → kind ≡ pageAt s i .kind

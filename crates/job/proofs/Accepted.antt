@@ -1,28 +1,27 @@
 -- An accepted job: its pages, each of a sound line, and where their texts stand. Assumes nothing.
 use Prim.Native.Nat.{ℕ, zero, suc, _+_, _-_, _*_, _%_, _≤_, _<_, zero-le}
 use mathlib.Core.Path.{_≡_, refl, sym, ap, _∙_}
-use mathlib.Core.List.{List, [], _∷_, map}
+use mathlib.Core.List.{List, [], _∷_}
 use mathlib.Core.Bool.{Bool, true, false, cond, not, _&&_}
 use mathlib.Core.Logic.{⊎-elim}
 use native.Mathlib.Nat.{eq-or-lt-of-le}
 use native.Mathlib.Omega.{arith}
-use lib.ListN.{length, getD, take, drop, replicate, length-drop, length-map, List·getD-append, List·getD-map}
+use lib.ListN.{length, getD, take, drop, replicate, length-drop, List·getD-append}
 use lib.Seq.{drop-drop}
 use lib.Dec.{leb, eqb}
 use borrow.Author.Tests.{leb-false, eqb-true, eqb-false}
-use Rattle.base.specs.Hex.{bytesOf}
 use Rattle.base.specs.Lines.{Lines, behind, line, onto, split, lineAt, lineEnd}
-use Rattle.base.specs.Lists.{padded}
 use Rattle.base.proofs.Bools.{and-true, or-true}
 use Rattle.base.proofs.HexLaws.{bytes-length}
 use Rattle.base.proofs.LinesLaws.{end-after, end-inside, cut}
 use Rattle.base.proofs.ListLaws.{drop-take}
-use Rattle.job.specs.Line.{allHex, isPairs, headFormed, tailFormed, wellFormed, longestOf, kindOf, lineOf, textPairs, textOf}
-use Rattle.job.specs.Pages.{Page, pageFrom, pagesFrom, pagesOf, noPage, pageAt}
+use Rattle.job.specs.Line.{allHex, isPairs, headFormed, tailFormed, wellFormed, longestOf, kindOf, lineOf, textPairs, textOf, pageFrom}
+use Rattle.job.specs.Pages.{pagesFrom, pagesOf, noPage, pageAt, digitsIn, digitsAt}
 use Rattle.job.specs.Job.{after, judge, jobOf, tableOf, answerWith, readingOf}
 use Rattle.job.specs.Accepted.{Sound, PageRead, AcceptedJob}
 use Rattle.job.specs.declared.Refusal.{Refusal}
 use Rattle.job.specs.declared.Refusal.the-variants.{Malformed, TooManyLines, EmptyJob}
+use Rattle.job.specs.declared.Page.{Page}
 use Rattle.job.specs.declared.LineAnswer.{LineAnswer}
 use Rattle.job.specs.declared.LineAnswer.the-variants.{Good, Faulty}
 use Rattle.job.specs.declared.JobAnswer.{JobAnswer}
@@ -40,8 +39,8 @@ end-accepted : (b : Bool) (k : ℕ) (x : JobAnswer) {n : ℕ} → ((m : ℕ) →
 end-accepted true k x f e = (cc, refl)
 end-accepted false k x {n} f e = absurd (f n e)
 
-after-good : (x : LineAnswer) (p : ℕ) (r : JobAnswer) {n : ℕ} → after x p r ≡ Accepted n → (r ≡ Accepted n) × ((l : List ℕ) → lineOf l ≡ x → Sound l)
-after-good (Good i k c) p r e = (e, λ l q. sound l q)
+after-good : (x : LineAnswer) (p : ℕ) (r : JobAnswer) {n : ℕ} → after x p r ≡ Accepted n → (r ≡ Accepted n) × ((at : ℕ) (l : List ℕ) → lineOf at l ≡ x → Sound l)
+after-good (Good page) p r e = (e, λ at l q. sound at l q)
 after-good (Faulty w) p r e = let z : _≡_ {A = ℕ} 0 1 = cc in absurd (omega arith)
 
 -- ---- how long a line and a job are
@@ -63,7 +62,7 @@ text-length l e =
     let h = even (drop 8 l) (and-true (headFormed l) (tailFormed (drop 8 l)) e .1) in
     omega (arith, bytes-length (textPairs l), length-drop 9 l, length-drop 1 (drop 8 l), length-drop 8 l)
 
-longest-few : (kind : ℕ) → longestOf kind ≤ 240
+pub longest-few : (kind : ℕ) → longestOf kind ≤ 240
 unfolding longestOf
 longest-few kind = go (leb kind 3) (eqb kind 4)
   where
@@ -109,7 +108,7 @@ unfolding lineAt
 each-more l ls k n s f zero h = s
 each-more l ls k n s f (suc p) h = f p (omega arith)
 
-judged : (ls : Lines) (at k n : ℕ) → k ≤ 48 → judge k ls ≡ Accepted n → Judged at k n ls
+judged : (ls : Lines) (at k n : ℕ) → k ≤ 48 → judge at k ls ≡ Accepted n → Judged at k n ls
 unfolding judge pagesFrom bytesIn
 judged (behind p) at k n h e =
     let q = end-accepted (eqb (length p) 0) k (cond (leb 48 k) (Refused TooManyLines 49) (Refused Malformed (k + 1)))
@@ -117,10 +116,10 @@ judged (behind p) at k n h e =
     let z : _≡_ {A = ℕ} 0 1 = cc in omega arith) e in
     record { count = omega (arith, q .0); few = omega (arith, q .0); each = λ i l. absurd (omega (arith, q .0)); short = omega (arith, q .0, eqb-true (length p) 0 (q .1)) }
 judged (line l ls) at k n h e =
-    let x = not-refused (leb 48 k) TooManyLines 49 (after (lineOf l) (k + 1) (judge (k + 1) ls)) e in
-    let a = after-good (lineOf l) (k + 1) (judge (k + 1) ls) (x .1) in
+    let x = not-refused (leb 48 k) TooManyLines 49 (after (lineOf at l) (k + 1) (judge (at + length l + 1) (k + 1) ls)) e in
+    let a = after-good (lineOf at l) (k + 1) (judge (at + length l + 1) (k + 1) ls) (x .1) in
     let r = judged ls (at + length l + 1) (k + 1) n (omega (arith, leb-false 48 k (x .0))) (a .0) in
-    record { count = omega (arith, r .count); few = r .few; each = each-more l ls k n (a .1 l refl) (r .each); short = omega (arith, r .short, line-short l (a .1 l refl)) }
+    record { count = omega (arith, r .count); few = r .few; each = each-more l ls k n (a .1 at l refl) (r .each); short = omega (arith, r .short, line-short l (a .1 at l refl)) }
 
 -- ---- where a page's line stands in the job
 
@@ -151,19 +150,15 @@ stands s (suc p) at h i =
 
 -- ---- a page's text
 
-module _ (s : List ℕ) (l : List ℕ) (b : ℕ) (formed : wellFormed l ≡ true) (inside : b + length l < length s) (there : take (length l) (drop b s) ≡ l) where
-  text-inside : b + 9 + 2 * length (textOf l) ≤ length s
-  text-inside = omega (arith, text-length l formed, formed-long l formed)
-
-  text-there : take (2 * length (textOf l)) (drop (b + 9) s) ≡ textPairs l
-  text-there = rw (text-length l formed, ← drop-drop 9 b s, ← drop-take 9 (length l) (drop b s), there)
+text-there : (s l : List ℕ) (b : ℕ) → take (length l) (drop b s) ≡ l → digitsIn s (pageFrom b l) ≡ textPairs l
+text-there s l b there = rw (← drop-drop 9 b s, ← drop-take 9 (length l) (drop b s), there)
 
 -- ---- an accepted job
 
 module _ (s : List ℕ) (n : ℕ) (ok : jobOf s ≡ Accepted n) where
-  nonempty : (length s ≡ 0 → ⊥) × (judge 0 (split s) ≡ Accepted n)
+  nonempty : (length s ≡ 0 → ⊥) × (judge 0 0 (split s) ≡ Accepted n)
   unfolding jobOf
-  nonempty = let x = not-refused (eqb (length s) 0) EmptyJob 0 (judge 0 (split s)) ok in (eqb-false (length s) 0 (x .0), x .1)
+  nonempty = let x = not-refused (eqb (length s) 0) EmptyJob 0 (judge 0 0 (split s)) ok in (eqb-false (length s) 0 (x .0), x .1)
 
   all : Judged 0 0 n (split s)
   all = judged (split s) 0 0 n zero-le (nonempty .1)
@@ -181,12 +176,6 @@ module _ (s : List ℕ) (n : ℕ) (ok : jobOf s ≡ Accepted n) where
       (λ c. omega (arith, counted, ap length (pages-next s 0 c)))
       (eq-or-lt-of-le (end-inside s 0 zero-le))
 
-  -- a field of page p as it is kept
-  kept-at : (field : Page → ℕ) (p : ℕ) → p < n → getD (padded 48 (map field (pagesOf s))) p (field noPage) ≡ field (pageAt s p)
-  kept-at field p h =
-      List·getD-append (map field (pagesOf s)) (replicate (48 - length (map field (pagesOf s))) 0) (field noPage) p (omega (arith, counted, length-map (pagesOf s) field))
-      ∙ List·getD-map field (pagesOf s) p noPage
-
   place : (p : ℕ) → p < n → Stands s (pageAt s p) (lineAt p (split s))
   unfolding pagesOf
   place p h = stands s p 0 zero-le (omega (arith, counted))
@@ -199,18 +188,13 @@ module _ (s : List ℕ) (n : ℕ) (ok : jobOf s ≡ Accepted n) where
   page p h =
       let w = place p h in
       let l = lineAt p (split s) in
-      let formed = sounds p h .formed in
+      let digits : digitsAt s p ≡ textPairs l = rw (w .page) (text-there s l (w .byte) (w .there)) in
       record {
         identity-is = ap (λ (x : Page). x .identity) (w .page);
         kind-is = ap (λ (x : Page). x .kind) (w .page);
-        text-is = ap (λ (x : Page). x .text) (w .page);
-        inside = rw (w .page) (text-inside s l (w .byte) formed (w .inside) (w .there));
-        pairs = rw (w .page) (text-there s l (w .byte) formed (w .inside) (w .there));
-        bytes = rw (w .page) (ap bytesOf (text-there s l (w .byte) formed (w .inside) (w .there)));
-        kept-identity = rw ok (kept-at (λ x. x .identity) p h);
-        kept-kind = rw ok (kept-at (λ x. x .kind) p h);
-        kept-start = rw ok (kept-at (λ x. x .start) p h);
-        kept-count = rw ok (kept-at (λ x. length (x .text)) p h);
+        digits-are = digits;
+        length-is = ap (λ (x : Page). x .length) (w .page) ∙ sym (ap length digits ∙ length-drop 9 l);
+        read = rw ok (List·getD-append (pagesOf s) (replicate (48 - length (pagesOf s)) noPage) noPage p (omega (arith, counted)));
       }
 
   -- 48 lines of 490 bytes

@@ -11,12 +11,13 @@ use Rattle.base.specs.Hex.{between}
 use Rattle.base.specs.Lines.{Lines, behind, line, split, lineAt}
 use Rattle.base.proofs.LeadingLaws.{leading-each, leading-first}
 use Rattle.text.specs.Coding.{charOk, endsInSpace}
-use Rattle.job.specs.Line.{wellFormed, isReserved, longestOf, codingOf, goodRun, tonePageOf, textPageOf, kindPageOf, pageOf, lineOf, identityOf, kindOf, textOf}
+use Rattle.job.specs.Line.{wellFormed, isReserved, longestOf, codingOf, goodRun, tonePageOf, textPageOf, kindPageOf, pageOf, lineOf, identityOf, kindOf, textOf, pageFrom}
 use Rattle.job.specs.Job.{after, judge, jobOf}
 use Rattle.job.specs.Refusal.{numberOf, positionOf, jobNumber, jobPlace, jobPosition}
 use Rattle.job.specs.FirstBad.{FirstBad, Positioned}
 use Rattle.job.specs.declared.Refusal.{Refusal}
 use Rattle.job.specs.declared.Refusal.the-variants.{Malformed, IdentityRange, IdentityReserved, UnknownKind, ToneWithText, TextMissing, TextTooLong, Character, TrailingSpace, TooManyLines, EmptyJob}
+use Rattle.job.specs.declared.Page.{Page}
 use Rattle.job.specs.declared.LineAnswer.{LineAnswer}
 use Rattle.job.specs.declared.LineAnswer.the-variants.{Good, Faulty}
 use Rattle.job.specs.declared.JobAnswer.{JobAnswer}
@@ -24,11 +25,11 @@ use Rattle.job.specs.declared.JobAnswer.the-variants.{Accepted, Refused}
 
 -- a line's number and position
 abbrev lineNumber : LineAnswer → ℕ
-lineNumber (Good identity kind count) = 0
+lineNumber (Good page) = 0
 lineNumber (Faulty why) = numberOf why
 
 abbrev linePosition : LineAnswer → ℕ
-linePosition (Good identity kind count) = 0
+linePosition (Good page) = 0
 linePosition (Faulty why) = positionOf why
 
 -- what number 6 says of a text
@@ -40,51 +41,54 @@ other : (kind : ℕ) (bytes : List ℕ) (t : Bool) (why : Refusal) (rest : LineA
 other kind bytes true why rest n r e = absurd (n e)
 other kind bytes false why rest n r e = r e
 
-module _ (kind : ℕ) (bytes : List ℕ) where
-  run-bad : goodRun kind bytes < length bytes → FirstBad kind bytes (goodRun kind bytes + 1)
-  run-bad h =
-      let p = charOk (codingOf kind) in
-      let one : goodRun kind bytes + 1 - 1 ≡ goodRun kind bytes = omega arith in
-      record { inside = (omega arith, omega arith); bad = rw one (leading-first p bytes h); before = λ i l. leading-each p bytes i (omega arith) }
+run-bad : (kind : ℕ) (bytes : List ℕ) → goodRun kind bytes < length bytes → FirstBad kind bytes (goodRun kind bytes + 1)
+run-bad kind bytes h =
+    let p = charOk (codingOf kind) in
+    let one : goodRun kind bytes + 1 - 1 ≡ goodRun kind bytes = omega arith in
+    record { inside = (omega arith, omega arith); bad = rw one (leading-first p bytes h); before = λ i l. leading-each p bytes i (omega arith) }
 
-  text-bad : (identity : ℕ) → Bad6 kind bytes (textPageOf identity kind bytes)
+module _ (page : Page) (bytes : List ℕ) where
+  abbrev kind : ℕ
+  kind = page .kind
+
+  text-bad : Bad6 kind bytes (textPageOf page bytes)
   unfolding textPageOf
-  text-bad identity =
+  text-bad =
       other kind bytes (eqb (length bytes) 0) TextMissing _ (λ n. omega arith)
       (other kind bytes (ltb (longestOf kind) (length bytes)) TextTooLong _ (λ n. omega arith)
       (char (ltb (goodRun kind bytes) (length bytes)) refl))
     where
-      spaced : Bad6 kind bytes (cond (endsInSpace (codingOf kind) bytes) (Faulty TrailingSpace) (Good identity kind (length bytes)))
+      spaced : Bad6 kind bytes (cond (endsInSpace (codingOf kind) bytes) (Faulty TrailingSpace) (Good page))
       spaced = other kind bytes (endsInSpace (codingOf kind) bytes) TrailingSpace _ (λ n. omega arith) (λ e. absurd (omega arith))
 
       char : (t : Bool) → ltb (goodRun kind bytes) (length bytes) ≡ t
-          → Bad6 kind bytes (cond t (Faulty (Character (goodRun kind bytes + 1))) (cond (endsInSpace (codingOf kind) bytes) (Faulty TrailingSpace) (Good identity kind (length bytes))))
-      char true h e = run-bad (ltb-true _ _ h)
+          → Bad6 kind bytes (cond t (Faulty (Character (goodRun kind bytes + 1))) (cond (endsInSpace (codingOf kind) bytes) (Faulty TrailingSpace) (Good page)))
+      char true h e = run-bad kind bytes (ltb-true _ _ h)
       char false h e = spaced e
 
-  kind-bad : (identity : ℕ) → Bad6 kind bytes (kindPageOf identity kind bytes)
+  kind-bad : Bad6 kind bytes (kindPageOf page bytes)
   unfolding kindPageOf tonePageOf
-  kind-bad identity = by-kind (between 0 3 kind) (between 4 5 kind)
+  kind-bad = by-kind (between 0 3 kind) (between 4 5 kind)
     where
-      tone : (t : Bool) → Bad6 kind bytes (cond t (Good identity kind (length bytes)) (Faulty ToneWithText))
+      tone : (t : Bool) → Bad6 kind bytes (cond t (Good page) (Faulty ToneWithText))
       tone true e = absurd (omega arith)
       tone false e = absurd (omega arith)
 
-      by-kind : (t u : Bool) → Bad6 kind bytes (cond t (tonePageOf identity kind bytes) (cond u (textPageOf identity kind bytes) (Faulty UnknownKind)))
+      by-kind : (t u : Bool) → Bad6 kind bytes (cond t (tonePageOf page bytes) (cond u (textPageOf page bytes) (Faulty UnknownKind)))
       by-kind true u = tone (eqb (length bytes) 0)
-      by-kind false true = text-bad identity
+      by-kind false true = text-bad
       by-kind false false = λ e. absurd (omega arith)
 
-line-bad : (l : List ℕ) → Bad6 (kindOf l) (textOf l) (lineOf l)
+line-bad : (at : ℕ) (l : List ℕ) → Bad6 (kindOf l) (textOf l) (lineOf at l)
 unfolding lineOf pageOf
-line-bad l = formed (wellFormed l)
+line-bad at l = formed (wellFormed l)
   where
-    page : Bad6 (kindOf l) (textOf l) (pageOf (identityOf l) (kindOf l) (textOf l))
+    page : Bad6 (kindOf l) (textOf l) (pageOf (pageFrom at l) (textOf l))
     page =
         other (kindOf l) (textOf l) (ltb 0x1FFFFF (identityOf l)) IdentityRange _ (λ n. omega arith)
-        (other (kindOf l) (textOf l) (isReserved (identityOf l)) IdentityReserved _ (λ n. omega arith) (kind-bad (kindOf l) (textOf l) (identityOf l)))
+        (other (kindOf l) (textOf l) (isReserved (identityOf l)) IdentityReserved _ (λ n. omega arith) (kind-bad (pageFrom at l) (textOf l)))
 
-    formed : (t : Bool) → Bad6 (kindOf l) (textOf l) (cond t (pageOf (identityOf l) (kindOf l) (textOf l)) (Faulty Malformed))
+    formed : (t : Bool) → Bad6 (kindOf l) (textOf l) (cond t (pageOf (pageFrom at l) (textOf l)) (Faulty Malformed))
     formed true = page
     formed false = λ e. absurd (omega arith)
 
@@ -97,20 +101,22 @@ Lines6 k ls a =
 first-line : (k : ℕ) (l : List ℕ) (ls : Lines) (a : LineAnswer) → Bad6 (kindOf l) (textOf l) a → (r : JobAnswer) → Lines6 (k + 1) ls r → Lines6 k (line l ls) (after a (k + 1) r)
 unfolding lineAt
 first-line k l ls (Faulty why) b r rest e = let none : k + 1 - (k + 1) ≡ zero = omega arith in (omega arith, rw none (b e))
-first-line k l ls (Good identity kind count) b r rest e =
+first-line k l ls (Good page) b r rest e =
     let h = rest e in
     let next : jobPlace r - (k + 1) ≡ suc (jobPlace r - (k + 1 + 1)) = omega (arith, h .0) in
     (omega (arith, h .0), rw next (h .1))
 
-lines-bad : (k : ℕ) (ls : Lines) → Lines6 k ls (judge k ls)
+lines-bad : (at k : ℕ) (ls : Lines) → Lines6 k ls (judge at k ls)
 unfolding judge
-lines-bad k (behind p) = by-end (eqb (length p) 0) (leb 48 k)
+lines-bad at k (behind p) = by-end (eqb (length p) 0) (leb 48 k)
   where
     by-end : (t u : Bool) → Lines6 k (behind p) (cond t (Accepted k) (cond u (Refused TooManyLines 49) (Refused Malformed (k + 1))))
     by-end true u e = absurd (omega arith)
     by-end false true e = absurd (omega arith)
     by-end false false e = absurd (omega arith)
-lines-bad k (line l ls) = many (leb 48 k) (after (lineOf l) (k + 1) (judge (k + 1) ls)) (first-line k l ls (lineOf l) (line-bad l) (judge (k + 1) ls) (lines-bad (k + 1) ls))
+lines-bad at k (line l ls) =
+    let next = at + length l + 1 in
+    many (leb 48 k) (after (lineOf at l) (k + 1) (judge next (k + 1) ls)) (first-line k l ls (lineOf at l) (line-bad at l) (judge next (k + 1) ls) (lines-bad next (k + 1) ls))
   where
     many : (t : Bool) (a : JobAnswer) → Lines6 k (line l ls) a → Lines6 k (line l ls) (cond t (Refused TooManyLines 49) a)
     many true a r e = absurd (omega arith)
@@ -120,6 +126,6 @@ pub first-bad : Positioned
 unfolding jobOf
 first-bad s = by-length (eqb (length s) 0)
   where
-    by-length : (t : Bool) → Lines6 0 (split s) (cond t (Refused EmptyJob 0) (judge 0 (split s)))
+    by-length : (t : Bool) → Lines6 0 (split s) (cond t (Refused EmptyJob 0) (judge 0 0 (split s)))
     by-length true e = absurd (omega arith)
-    by-length false e = lines-bad 0 (split s) e
+    by-length false e = lines-bad 0 0 (split s) e

@@ -19,8 +19,8 @@ use Rattle.base.proofs.LeadingLaws.{leading-le}
 use Rattle.base.proofs.LinesLaws.{end-after, end-inside, none-left, cut, uncut}
 use Rattle.text.specs.Coding.{charOk, charRun}
 use Rattle.text.proofs.RunLaws.{run-chars}
-use Rattle.job.specs.Line.{isPairs, headFormed, wellFormed, codingOf, goodRun, lineOf}
-use Rattle.job.specs.Pages.{pageFrom, pagesFrom}
+use Rattle.job.specs.Line.{isPairs, headFormed, wellFormed, codingOf, goodRun, lineOf, pageFrom}
+use Rattle.job.specs.Pages.{pagesFrom}
 use Rattle.job.specs.Job.{after, judge}
 use Rattle.job.specs.declared.Refusal.the-variants.{Malformed, TooManyLines}
 use Rattle.job.specs.declared.LineAnswer.{LineAnswer}
@@ -49,11 +49,11 @@ module _ (t : List ℕ) (kind : ℕ) where
 
 -- The answer to what is left from the byte `at` on, behind k good lines.
 module _ (job : List ℕ) (at k : ℕ) where
-  pub judge-done : length job ≤ at → judge k (split (drop at job)) ≡ Accepted k
+  pub judge-done : length job ≤ at → judge at k (split (drop at job)) ≡ Accepted k
   unfolding judge
   judge-done h = rw (none-left job at h)
 
-  pub judge-many : at < length job → 48 ≤ k → judge k (split (drop at job)) ≡ Refused TooManyLines 49
+  pub judge-many : at < length job → 48 ≤ k → judge at k (split (drop at job)) ≡ Refused TooManyLines 49
   unfolding judge
   judge-many h m =
       let d = length-drop at job in
@@ -62,16 +62,20 @@ module _ (job : List ℕ) (at k : ℕ) where
       (λ l. rw (cut job at l) (simp (le-leb 48 k m)))
       (eq-or-lt-of-le (end-inside job at (omega arith)))
 
-  pub judge-unended : k < 48 → at < length job → length job ≤ lineEnd job at → judge k (split (drop at job)) ≡ Refused Malformed (k + 1)
+  pub judge-unended : k < 48 → at < length job → length job ≤ lineEnd job at → judge at k (split (drop at job)) ≡ Refused Malformed (k + 1)
   unfolding judge
   judge-unended m h u =
       let d = length-drop at job in
       rw (uncut job at (omega arith) u) (simp (ne-eqb (length (drop at job)) 0 (λ z. omega arith), lt-leb 48 k m))
 
-  pub judge-line : {end : ℕ} {x : LineAnswer} → end ≡ lineEnd job at → k < 48 → end < length job → x ≡ lineOf (take (end - at) (drop at job))
-      → judge k (split (drop at job)) ≡ after x (k + 1) (judge (k + 1) (split (drop (end + 1) job)))
+  pub judge-line : {end : ℕ} {x : LineAnswer} → end ≡ lineEnd job at → k < 48 → end < length job → x ≡ lineOf at (take (end - at) (drop at job))
+      → judge at k (split (drop at job)) ≡ after x (k + 1) (judge (end + 1) (k + 1) (split (drop (end + 1) job)))
   unfolding judge
-  judge-line q m h e = rw (e, q, cut job at (rw q at h)) (simp (lt-leb 48 k m))
+  judge-line {end} q m h e =
+      let i : end < length job = h in
+      let size : at + length (take (lineEnd job at - at) (drop at job)) + 1 ≡ lineEnd job at + 1 =
+      omega (arith, length-take-le (lineEnd job at - at) (drop at job) (omega (arith, length-drop at job)), end-after job at) in
+      rw (e, q, cut job at (rw q at h)) (rw size (simp (lt-leb 48 k m)))
 
 -- The first line that is left, and the pages that follow its page.
 module _ (s : List ℕ) (at : ℕ) where

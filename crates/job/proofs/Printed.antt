@@ -69,4 +69,4 @@ line-printed l s =
 pub page-printed : PagePrinted
 page-printed s n a p h =
     let r = a .page p h in
-    rw (r .identity-is, r .kind-is, r .pairs) (line-printed (lineAt p (split s)) (a .sound p h))
+    rw (r .identity-is, r .kind-is, r .digits-are) (line-printed (lineAt p (split s)) (a .sound p h))

@@ -12,19 +12,20 @@ use Rattle.base.specs.Leading.{leading}
 use Rattle.base.proofs.Bools.{and-true}
 use Rattle.text.specs.Coding.{charOk, endsInSpace, groupsOf}
 use Rattle.text.specs.declared.Coding.the-variants.{Numeric, Alphanumeric}
-use Rattle.job.specs.Line.{wellFormed, isReserved, longestOf, codingOf, functionOf, goodRun, tonePageOf, textPageOf, kindPageOf, pageOf, lineOf, identityOf, kindOf, textOf}
+use Rattle.job.specs.Line.{wellFormed, isReserved, longestOf, codingOf, functionOf, goodRun, tonePageOf, textPageOf, kindPageOf, pageOf, lineOf, identityOf, kindOf, textOf, pageFrom}
 use Rattle.job.specs.Accepted.{Sound}
 use Rattle.job.specs.declared.Refusal.{Refusal}
 use Rattle.job.specs.declared.Refusal.the-variants.{Malformed, IdentityRange, IdentityReserved, UnknownKind, ToneWithText, TextMissing, TextTooLong, Character, TrailingSpace}
+use Rattle.job.specs.declared.Page.{Page}
 use Rattle.job.specs.declared.LineAnswer.{LineAnswer}
 use Rattle.job.specs.declared.LineAnswer.the-variants.{Good, Faulty}
 
 -- a page comes past a test only where the test failed, or where it passed
-past : (b : Bool) (w : Refusal) (r : LineAnswer) {i k n : ℕ} → cond b (Faulty w) r ≡ Good i k n → (b ≡ false) × (r ≡ Good i k n)
+past : (b : Bool) (w : Refusal) (r : LineAnswer) {p : Page} → cond b (Faulty w) r ≡ Good p → (b ≡ false) × (r ≡ Good p)
 past true w r e = let z : _≡_ {A = ℕ} 0 1 = cc in absurd (omega arith)
 past false w r e = (refl, e)
 
-kept : (b : Bool) (w : Refusal) (r : LineAnswer) {i k n : ℕ} → cond b r (Faulty w) ≡ Good i k n → (b ≡ true) × (r ≡ Good i k n)
+kept : (b : Bool) (w : Refusal) (r : LineAnswer) {p : Page} → cond b r (Faulty w) ≡ Good p → (b ≡ true) × (r ≡ Good p)
 kept true w r e = (refl, e)
 kept false w r e = let z : _≡_ {A = ℕ} 0 1 = cc in absurd (omega arith)
 
@@ -50,10 +51,11 @@ tone-texted kind bytes low e =
       unspaced = rw (ne-eqb kind 4 (λ z. omega arith));
     }
 
-text-texted : (identity kind : ℕ) (bytes : List ℕ) → 4 ≤ kind → kind ≤ 5 → {i k n : ℕ} → textPageOf identity kind bytes ≡ Good i k n
-    → Texted kind bytes × (Good i k n ≡ Good identity kind (length bytes))
+text-texted : (page : Page) (bytes : List ℕ) → 4 ≤ page .kind → page .kind ≤ 5 → {p : Page} → textPageOf page bytes ≡ Good p
+    → Texted (page .kind) bytes × (Good p ≡ Good page)
 unfolding textPageOf
-text-texted identity kind bytes low high e =
+text-texted page bytes low high e =
+    let kind = page .kind in
     let p1 = past (eqb (length bytes) 0) TextMissing _ e in
     let p2 = past (ltb (longestOf kind) (length bytes)) TextTooLong _ (p1 .1) in
     let p3 = past (ltb (goodRun kind bytes) (length bytes)) (Character (goodRun kind bytes + 1)) _ (p2 .1) in
@@ -70,20 +72,20 @@ text-texted identity kind bytes low high e =
       sym (p4 .1),
     )
 
-kind-texted : (identity kind : ℕ) (bytes : List ℕ) {i k n : ℕ} → kindPageOf identity kind bytes ≡ Good i k n
-    → Texted kind bytes × (Good i k n ≡ Good identity kind (length bytes))
+kind-texted : (page : Page) (bytes : List ℕ) {p : Page} → kindPageOf page bytes ≡ Good p → Texted (page .kind) bytes × (Good p ≡ Good page)
 unfolding kindPageOf tonePageOf
-kind-texted identity kind bytes {i} {k} {n} = go (between 0 3 kind) (between 4 5 kind) refl refl
+kind-texted page bytes {p} = go (between 0 3 (page .kind)) (between 4 5 (page .kind)) refl refl
   where
-    go : (t u : Bool) → between 0 3 kind ≡ t → between 4 5 kind ≡ u
-        → cond t (tonePageOf identity kind bytes) (cond u (textPageOf identity kind bytes) (Faulty UnknownKind)) ≡ Good i k n
-        → Texted kind bytes × (Good i k n ≡ Good identity kind (length bytes))
+    go : (t u : Bool) → between 0 3 (page .kind) ≡ t → between 4 5 (page .kind) ≡ u
+        → cond t (tonePageOf page bytes) (cond u (textPageOf page bytes) (Faulty UnknownKind)) ≡ Good p → Texted (page .kind) bytes × (Good p ≡ Good page)
     go true u e f g =
+        let kind = page .kind in
         let p = kept (eqb (length bytes) 0) ToneWithText _ g in
         (tone-texted kind bytes (leb-true kind 3 (and-true (leb 0 kind) (leb kind 3) e .1)) (eqb-true (length bytes) 0 (p .0)), sym (p .1))
     go false true e f g =
+        let kind = page .kind in
         let h = and-true (leb 4 kind) (leb kind 5) f in
-        text-texted identity kind bytes (leb-true 4 kind (h .0)) (leb-true kind 5 (h .1)) g
+        text-texted page bytes (leb-true 4 kind (h .0)) (leb-true kind 5 (h .1)) g
     go false false e f g = let z : _≡_ {A = ℕ} 0 1 = cc in absurd (omega arith)
 
 -- how many message codewords the longest texts take
@@ -109,16 +111,15 @@ function-small kind h = go (eqb kind 4) (eqb kind 5) refl refl
         let five : kind ≡ 5 → ⊥ = eqb-false kind 5 f in
         omega arith
 
-pub sound : (l : List ℕ) {i k n : ℕ} → lineOf l ≡ Good i k n → Sound l
+pub sound : (at : ℕ) (l : List ℕ) {p : Page} → lineOf at l ≡ Good p → Sound l
 unfolding lineOf pageOf
-sound l e =
+sound at l e =
     let p1 = kept (wellFormed l) Malformed _ e in
     let p2 = past (ltb 0x1FFFFF (identityOf l)) IdentityRange _ (p1 .1) in
     let p3 = past (isReserved (identityOf l)) IdentityReserved _ (p2 .1) in
-    let p4 = kind-texted (identityOf l) (kindOf l) (textOf l) (p3 .1) in
+    let p4 = kind-texted (pageFrom at l) (textOf l) (p3 .1) in
     let t = p4 .0 in
     record {
-      good = e ∙ p4 .1;
       formed = p1 .0;
       in-range = ltb-false _ _ (p2 .0);
       free = p3 .0;
@@ -131,3 +132,12 @@ sound l e =
       function = function-small (kindOf l) (t .known);
       brief = few-groups (kindOf l) (length (textOf l)) (t .most);
     }
+
+-- and what it says is its page
+pub good-is : (at : ℕ) (l : List ℕ) {p : Page} → lineOf at l ≡ Good p → Good p ≡ Good (pageFrom at l)
+unfolding lineOf pageOf
+good-is at l e =
+    let p1 = kept (wellFormed l) Malformed _ e in
+    let p2 = past (ltb 0x1FFFFF (identityOf l)) IdentityRange _ (p1 .1) in
+    let p3 = past (isReserved (identityOf l)) IdentityReserved _ (p2 .1) in
+    kind-texted (pageFrom at l) (textOf l) (p3 .1) .1

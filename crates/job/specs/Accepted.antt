@@ -1,21 +1,18 @@
 -- What is known of an accepted job. `accepted-job` in proofs/Accepted.antt proves it.
-use Prim.Native.Nat.{ℕ, _+_, _*_, _≤_, _<_}
+use Prim.Native.Nat.{ℕ, _≤_, _<_}
 use mathlib.Core.Path.{_≡_}
 use mathlib.Core.List.{List}
 use mathlib.Core.Bool.{true, false}
-use lib.ListN.{length, getD, take, drop}
-use Rattle.base.specs.Hex.{bytesOf}
+use lib.ListN.{length, getD}
 use Rattle.base.specs.Leading.{leading}
 use Rattle.base.specs.Lines.{split, lineAt}
 use Rattle.text.specs.Coding.{charOk, endsInSpace, groupsOf}
-use Rattle.job.specs.Line.{wellFormed, isReserved, longestOf, codingOf, functionOf, identityOf, kindOf, textPairs, textOf, lineOf}
-use Rattle.job.specs.Pages.{pagesOf, pageAt}
+use Rattle.job.specs.Line.{wellFormed, isReserved, longestOf, codingOf, functionOf, identityOf, kindOf, textPairs, textOf}
+use Rattle.job.specs.Pages.{pagesOf, noPage, pageAt, digitsAt}
 use Rattle.job.specs.Job.{readingOf}
-use Rattle.job.specs.declared.LineAnswer.the-variants.{Good}
 
 -- a line that is not refused
 pub record Sound (l : List ℕ) : Type 0 where
-  pub good : lineOf l ≡ Good (identityOf l) (kindOf l) (length (textOf l))
   -- the form, the identity, the kind
   pub formed : wellFormed l ≡ true
   pub in-range : identityOf l ≤ 0x1FFFFF
@@ -33,19 +30,12 @@ pub record Sound (l : List ℕ) : Type 0 where
 
 -- the page at index p of a job
 pub record PageRead (s : List ℕ) (p : ℕ) : Type 0 where
-  -- it is what its line says
+  -- it is what its line says, and reading the job returns it
   pub identity-is : pageAt s p .identity ≡ identityOf (lineAt p (split s))
   pub kind-is : pageAt s p .kind ≡ kindOf (lineAt p (split s))
-  pub text-is : pageAt s p .text ≡ textOf (lineAt p (split s))
-  -- its text stands in the job, as pairs, from `start` on
-  pub inside : pageAt s p .start + 2 * length (pageAt s p .text) ≤ length s
-  pub pairs : take (2 * length (pageAt s p .text)) (drop (pageAt s p .start) s) ≡ textPairs (lineAt p (split s))
-  pub bytes : bytesOf (take (2 * length (pageAt s p .text)) (drop (pageAt s p .start) s)) ≡ pageAt s p .text
-  -- what reading the job keeps of it
-  pub kept-identity : getD (readingOf s .identities) p 0 ≡ pageAt s p .identity
-  pub kept-kind : getD (readingOf s .kinds) p 0 ≡ pageAt s p .kind
-  pub kept-start : getD (readingOf s .starts) p 0 ≡ pageAt s p .start
-  pub kept-count : getD (readingOf s .counts) p 0 ≡ length (pageAt s p .text)
+  pub digits-are : digitsAt s p ≡ textPairs (lineAt p (split s))
+  pub length-is : pageAt s p .length ≡ length (digitsAt s p)
+  pub read : getD (readingOf s .pages) p noPage ≡ pageAt s p
 
 -- a job of n pages: 1 to 48, each of a sound line
 pub record AcceptedJob (s : List ℕ) (n : ℕ) : Type 0 where

@@ -1,6 +1,6 @@
 -- What one page line says, without its newline: a page, or its first refusal in the order of the table (document 01, "Page lines"),
 -- where 12, 13 and 14 have 5's rank, between 4 and 6 (request R-1).
-use Prim.Native.Nat.{ℕ, _+_, _/_, _%_}
+use Prim.Native.Nat.{ℕ, _+_, _-_, _/_, _%_}
 use mathlib.Core.List.{List}
 use mathlib.Core.Bool.{Bool, cond, not, _&&_, _||_}
 use lib.ListN.{length, getD, take, drop}
@@ -11,6 +11,7 @@ use Rattle.text.specs.Coding.{charOk, endsInSpace}
 use Rattle.text.specs.declared.Coding.{Coding}
 use Rattle.text.specs.declared.Coding.the-variants.{Numeric, Alphanumeric}
 use Rattle.job.specs.declared.Refusal.the-variants.{Malformed, IdentityRange, IdentityReserved, UnknownKind, ToneWithText, TextMissing, TextTooLong, Character, TrailingSpace}
+use Rattle.job.specs.declared.Page.{Page}
 use Rattle.job.specs.declared.LineAnswer.{LineAnswer}
 use Rattle.job.specs.declared.LineAnswer.the-variants.{Good, Faulty}
 
@@ -54,6 +55,10 @@ textPairs l = drop 9 l
 abbrev pub textOf : List ℕ → List ℕ
 textOf l = bytesOf (textPairs l)
 
+-- the page of a line that starts at byte `at`; its text's digits stand behind six digits, a space, a digit and a space
+abbrev pub pageFrom : ℕ → List ℕ → Page
+pageFrom at l = record { identity = identityOf l; kind = kindOf l; start = at + 9; length = length l - 9 }
+
 -- ---- identities and kinds
 
 -- the upper address values of idle and sync are reserved (number 3)
@@ -79,32 +84,32 @@ goodRun kind bytes = leading (charOk (codingOf kind)) bytes
 -- ---- the refusals, the last in rank first
 
 -- kinds 0 to 3: a tone has no text (number 12)
-unfoldable pub tonePageOf : ℕ → ℕ → List ℕ → LineAnswer
-tonePageOf identity kind bytes = cond (eqb (length bytes) 0) (Good identity kind (length bytes)) (Faulty ToneWithText)
+unfoldable pub tonePageOf : Page → List ℕ → LineAnswer
+tonePageOf page bytes = cond (eqb (length bytes) 0) (Good page) (Faulty ToneWithText)
 
 -- kinds 4 and 5: no character (number 13), too many (14), one outside the kind's with its position (6), a space that ends a numeric text (7)
-unfoldable pub textPageOf : ℕ → ℕ → List ℕ → LineAnswer
-textPageOf identity kind bytes =
+unfoldable pub textPageOf : Page → List ℕ → LineAnswer
+textPageOf page bytes =
     cond (eqb (length bytes) 0) (Faulty TextMissing)
-    (cond (ltb (longestOf kind) (length bytes)) (Faulty TextTooLong)
-    (cond (ltb (goodRun kind bytes) (length bytes)) (Faulty (Character (goodRun kind bytes + 1)))
-    (cond (endsInSpace (codingOf kind) bytes) (Faulty TrailingSpace)
-    (Good identity kind (length bytes)))))
+    (cond (ltb (longestOf (page .kind)) (length bytes)) (Faulty TextTooLong)
+    (cond (ltb (goodRun (page .kind) bytes) (length bytes)) (Faulty (Character (goodRun (page .kind) bytes + 1)))
+    (cond (endsInSpace (codingOf (page .kind)) bytes) (Faulty TrailingSpace)
+    (Good page))))
 
 -- by the kind, which is 0 to 5 (number 4)
-unfoldable pub kindPageOf : ℕ → ℕ → List ℕ → LineAnswer
-kindPageOf identity kind bytes =
-    cond (between 0 3 kind) (tonePageOf identity kind bytes)
-    (cond (between 4 5 kind) (textPageOf identity kind bytes)
+unfoldable pub kindPageOf : Page → List ℕ → LineAnswer
+kindPageOf page bytes =
+    cond (between 0 3 (page .kind)) (tonePageOf page bytes)
+    (cond (between 4 5 (page .kind)) (textPageOf page bytes)
     (Faulty UnknownKind))
 
 -- the identity is at most 1FFFFF (number 2) and not reserved (number 3)
-unfoldable pub pageOf : ℕ → ℕ → List ℕ → LineAnswer
-pageOf identity kind bytes =
-    cond (ltb 0x1FFFFF identity) (Faulty IdentityRange)
-    (cond (isReserved identity) (Faulty IdentityReserved)
-    (kindPageOf identity kind bytes))
+unfoldable pub pageOf : Page → List ℕ → LineAnswer
+pageOf page bytes =
+    cond (ltb 0x1FFFFF (page .identity)) (Faulty IdentityRange)
+    (cond (isReserved (page .identity)) (Faulty IdentityReserved)
+    (kindPageOf page bytes))
 
--- what a line says
-unfoldable pub lineOf : List ℕ → LineAnswer
-lineOf l = cond (wellFormed l) (pageOf (identityOf l) (kindOf l) (textOf l)) (Faulty Malformed)
+-- what a line says that starts at byte `at`
+unfoldable pub lineOf : ℕ → List ℕ → LineAnswer
+lineOf at l = cond (wellFormed l) (pageOf (pageFrom at l) (textOf l)) (Faulty Malformed)

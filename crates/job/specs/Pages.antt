@@ -1,20 +1,10 @@
 -- The pages of a job's lines, whatever their faults, and where in the job their texts stand.
 use Prim.Native.Nat.{ℕ, _+_}
-use mathlib.Core.List.{List, [], _∷_, map}
-use lib.ListN.{length, getD}
+use mathlib.Core.List.{List, [], _∷_}
+use lib.ListN.{length, getD, take, drop}
 use Rattle.base.specs.Lines.{Lines, behind, line, split}
-use Rattle.job.specs.Line.{identityOf, kindOf, textOf}
-
--- a page: its identity, its kind, the byte of the job at which the pairs of its text start, and the bytes of its text
-pub record Page : Type 0 where
-  pub identity : ℕ
-  pub kind : ℕ
-  pub start : ℕ
-  pub text : List ℕ
-
--- the page of a line that starts at byte `at`; its text's pairs stand behind six digits, a space, a digit and a space
-abbrev pub pageFrom : ℕ → List ℕ → Page
-pageFrom at l = record { identity = identityOf l; kind = kindOf l; start = at + 9; text = textOf l }
+use Rattle.job.specs.Line.{pageFrom}
+use Rattle.job.specs.declared.Page.{Page}
 
 -- the pages of lines of which the first starts at byte `at`
 unfoldable pub pagesFrom : ℕ → Lines → List Page
@@ -27,21 +17,16 @@ pagesOf s = pagesFrom 0 (split s)
 
 -- what stands for a page where there is none
 abbrev pub noPage : Page
-noPage = record { identity = 0; kind = 0; start = 0; text = [] }
+noPage = record { identity = 0; kind = 0; start = 0; length = 0 }
 
 -- the page at index p of a job
 abbrev pub pageAt : List ℕ → ℕ → Page
 pageAt s p = getD (pagesOf s) p noPage
 
--- what is kept of each page: its identity, its kind, where its text starts, and how many characters it has
-abbrev pub identitiesOf : List Page → List ℕ
-identitiesOf ps = map (λ (p : Page). p .identity) ps
+-- the digits of a page's text in its job
+abbrev pub digitsIn : List ℕ → Page → List ℕ
+digitsIn s page = take (page .length) (drop (page .start) s)
 
-abbrev pub kindsOf : List Page → List ℕ
-kindsOf ps = map (λ (p : Page). p .kind) ps
-
-abbrev pub startsOf : List Page → List ℕ
-startsOf ps = map (λ (p : Page). p .start) ps
-
-abbrev pub countsOf : List Page → List ℕ
-countsOf ps = map (λ (p : Page). length (p .text)) ps
+-- those of the page at index p
+abbrev pub digitsAt : List ℕ → ℕ → List ℕ
+digitsAt s p = digitsIn s (pageAt s p)

@@ -2,14 +2,14 @@
 ghost use mathlib.Core.Path.{_≡_};
 ghost use mathlib.Core.Bool.{cond};
 ghost use mathlib.Core.List.{[]};
-ghost use Prim.Native.Nat.{_*_, _≤_};
-ghost use lib.ListN.{length, take, drop};
+ghost use Prim.Native.Nat.{_-_, _*_, _^_, _≤_, _<_};
+ghost use lib.ListN.{length, take, drop, replicate};
 ghost use Rattle.base.specs.Hex.{isHex, bytesOf};
 ghost use Rattle.base.specs.Leading.{leading};
 ghost use Rattle.base.specs.Lines.{split};
 ghost use Rattle.job.specs.Refusal.{numberOf, positionOf, jobNumber, jobPlace, jobPosition};
 ghost use Rattle.job.specs.Line.{isPairs, headFormed, tailFormed, isReserved, longestOf, codingOf, functionOf, goodRun, tonePageOf, textPageOf, kindPageOf, pageOf, lineOf};
-ghost use Rattle.job.specs.Pages.{pagesOf};
+ghost use Rattle.job.specs.Pages.{pagesOf, noPage, digitsIn};
 ghost use Rattle.base.specs.Lists.{over};
 ghost use Rattle.job.specs.Print.{headOf, spaced, ending, printed, printingOf, bytesPrinted};
 ghost use Rattle.job.specs.Job.{judge, tableOf, answerWith, readingOf};
@@ -33,10 +33,17 @@ pub enum Refusal {
     EmptyJob,
 }
 
+// A page: its identity, its kind, the byte of the job at which the digits of its text start, and how many they are.
+pub struct Page {
+    pub identity: u32,
+    pub kind: u32,
+    pub start: usize,
+    pub length: usize,
+}
+
 // What a page line says.
 enum LineAnswer {
-    // A page: its identity, its kind, and how many characters its text has.
-    Good(u32, u8, usize),
+    Good(Page),
     Faulty(Refusal),
 }
 
@@ -47,14 +54,10 @@ pub enum JobAnswer {
     Refused { why: Refusal, place: usize },
 }
 
-// A job's answer and, of each page of an accepted one, its identity, its kind, the byte of the job at which the pairs of its text
-// start, and how many characters the text has. Zeros stand behind the last page, and everywhere where the job is refused.
+// A job's answer, and the pages of an accepted one. Zeros stand behind the last page, and everywhere where the job is refused.
 pub struct Pages {
     pub answer: JobAnswer,
-    pub identities: [u32; 48],
-    pub kinds: [u8; 48],
-    pub starts: [usize; 48],
-    pub counts: [usize; 48],
+    pub pages: [Page; 48],
 }
 
 // The number of a refusal.
@@ -170,7 +173,7 @@ pub fn is_reserved(identity: u32) -> bool
 }
 
 // The most characters of a kind's text.
-fn longest(kind: u8) -> usize
+fn longest(kind: u32) -> usize
     ensures { λ r. ⌜ r ≡ longestOf kind ⌝ }
 {
     match kind {
@@ -181,7 +184,7 @@ fn longest(kind: u8) -> usize
 }
 
 // How a kind's text is coded.
-pub fn coding(kind: u8) -> Coding
+pub fn coding(kind: u32) -> Coding
     ensures { λ r. ⌜ r ≡ codingOf kind ⌝ }
 {
     match kind {
@@ -191,33 +194,33 @@ pub fn coding(kind: u8) -> Coding
 }
 
 // The function with which a kind is sent.
-pub fn function(kind: u8) -> u32
+pub fn function(kind: u32) -> u32
     ensures { λ r. ⌜ r ≡ functionOf kind ⌝ }
 {
     match kind {
         4 => 0,
         5 => 3,
-        _ => kind as u32,
+        _ => kind,
     }
 }
 
 // A tone, or number 12.
-fn judge_tone(identity: u32, kind: u8, text: &[u8]) -> LineAnswer
-    ensures { λ r. ⌜ r ≡ tonePageOf identity kind (bytesOf (now (text .entry))) ⌝ }
+fn judge_tone(page: Page, text: &[u8]) -> LineAnswer
+    ensures { λ r. ⌜ r ≡ tonePageOf page (bytesOf (now (text .entry))) ⌝ }
 {
-    let n = text.len() / 2;
-    if n == 0 {
-        LineAnswer::Good(identity, kind, n)
+    if text.len() / 2 == 0 {
+        LineAnswer::Good(page)
     } else {
         LineAnswer::Faulty(Refusal::ToneWithText)
     }
 }
 
 // A page with a text, or the first of numbers 13, 14, 6 and 7. The caller has counted the kind's characters at the text's front.
-fn judge_text(identity: u32, kind: u8, text: &[u8], good: usize) -> LineAnswer
-    requires { ⌜ good ≡ goodRun kind (bytesOf (now text)) ⌝ }
-    ensures { λ r. ⌜ r ≡ textPageOf identity kind (bytesOf (now (text .entry))) ⌝ }
+fn judge_text(page: Page, text: &[u8], good: usize) -> LineAnswer
+    requires { ⌜ good ≡ goodRun (page .kind) (bytesOf (now text)) ⌝ }
+    ensures { λ r. ⌜ r ≡ textPageOf page (bytesOf (now (text .entry))) ⌝ }
 {
+    let kind = page.kind;
     let n = text.len() / 2;
     if n == 0 {
         return LineAnswer::Faulty(Refusal::TextMissing);
@@ -232,70 +235,100 @@ fn judge_text(identity: u32, kind: u8, text: &[u8], good: usize) -> LineAnswer
     if text::ends_in_space(coding(kind), text) {
         return LineAnswer::Faulty(Refusal::TrailingSpace);
     }
-    LineAnswer::Good(identity, kind, n)
+    LineAnswer::Good(page)
 }
 
 // The page by its kind, or number 4 or its text's refusal.
-fn judge_kind(identity: u32, kind: u8, text: &[u8], good: usize) -> LineAnswer
-    requires { ⌜ good ≡ goodRun kind (bytesOf (now text)) ⌝ }
-    ensures { λ r. ⌜ r ≡ kindPageOf identity kind (bytesOf (now (text .entry))) ⌝ }
+fn judge_kind(page: Page, text: &[u8], good: usize) -> LineAnswer
+    requires { ⌜ good ≡ goodRun (page .kind) (bytesOf (now text)) ⌝ }
+    ensures { λ r. ⌜ r ≡ kindPageOf page (bytesOf (now (text .entry))) ⌝ }
 {
+    let kind = page.kind;
     match kind {
-        0..=3 => judge_tone(identity, kind, text),
-        4 | 5 => judge_text(identity, kind, text, good),
+        0..=3 => judge_tone(page, text),
+        4 | 5 => judge_text(page, text, good),
         _ => LineAnswer::Faulty(Refusal::UnknownKind),
     }
 }
 
 // The page of a well-formed line, or its first refusal.
-fn judge_page(identity: u32, kind: u8, text: &[u8], good: usize) -> LineAnswer
-    requires { ⌜ good ≡ goodRun kind (bytesOf (now text)) ⌝ }
-    ensures { λ r. ⌜ r ≡ pageOf identity kind (bytesOf (now (text .entry))) ⌝ }
+fn judge_page(page: Page, text: &[u8], good: usize) -> LineAnswer
+    requires { ⌜ good ≡ goodRun (page .kind) (bytesOf (now text)) ⌝ }
+    ensures { λ r. ⌜ r ≡ pageOf page (bytesOf (now (text .entry))) ⌝ }
 {
+    let identity = page.identity;
     if 0x1FFFFF < identity {
         return LineAnswer::Faulty(Refusal::IdentityRange);
     }
     if is_reserved(identity) {
         return LineAnswer::Faulty(Refusal::IdentityReserved);
     }
-    judge_kind(identity, kind, text, good)
+    judge_kind(page, text, good)
 }
 
 // The page of what must be pairs, or its first refusal. A text is passed over once: digits and characters together up to the first bad
 // character, and only digits behind it.
-fn judge_pairs(identity: u32, kind: u8, text: &[u8]) -> LineAnswer
-    ensures { λ r. ⌜ r ≡ cond (isPairs (now (text .entry))) (pageOf identity kind (bytesOf (now (text .entry)))) (Faulty Malformed) ⌝ }
+fn judge_pairs(page: Page, text: &[u8]) -> LineAnswer
+    ensures { λ r. ⌜ r ≡ cond (isPairs (now (text .entry))) (pageOf page (bytesOf (now (text .entry)))) (Faulty Malformed) ⌝ }
 {
+    let kind = page.kind;
     let good = text::char_run(coding(kind), text);
     if is_pairs(text, good) {
-        return judge_page(identity, kind, text, good);
+        return judge_page(page, text, good);
     }
     LineAnswer::Faulty(Refusal::Malformed)
 }
 
 // The page by what stands behind its kind, which must be nothing, or a space and pairs; or its first refusal.
-fn judge_tail(identity: u32, kind: u8, t: &[u8]) -> LineAnswer
-    ensures { λ r. ⌜ r ≡ cond (tailFormed (now (t .entry))) (pageOf identity kind (bytesOf (drop 1 (now (t .entry))))) (Faulty Malformed) ⌝ }
+fn judge_tail(page: Page, t: &[u8]) -> LineAnswer
+    ensures { λ r. ⌜ r ≡ cond (tailFormed (now (t .entry))) (pageOf page (bytesOf (drop 1 (now (t .entry))))) (Faulty Malformed) ⌝ }
 {
     if t.len() == 0 {
-        return judge_page(identity, kind, t, 0);
+        return judge_page(page, t, 0);
     }
     if t[0] != b' ' {
         return LineAnswer::Faulty(Refusal::Malformed);
     }
-    judge_pairs(identity, kind, &t[1..])
+    judge_pairs(page, &t[1..])
 }
 
-// What a line, without its newline, says.
-fn read_line(line: &[u8]) -> LineAnswer
-    ensures { λ r. ⌜ r ≡ lineOf (now (line .entry)) ⌝ }
+// How many digits of text a line of n bytes has, behind six digits, a space, a digit and a space.
+fn text_length(n: usize) -> usize
+    ensures { λ r. ⌜ r ≡ n - 9 ⌝ }
+{
+    if n < 9 { 0 } else { n - 9 }
+}
+
+// What a line, without its newline, says; it starts at this byte of the job.
+fn read_line(line: &[u8], at: usize) -> LineAnswer
+    requires { ⌜ at < 2 ^ 63 ⌝ }
+    ensures { λ r. ⌜ r ≡ lineOf at (now (line .entry)) ⌝ }
 {
     if !head_formed(line) {
         return LineAnswer::Faulty(Refusal::Malformed);
     }
     let identity = base::hex_number(&line[..6]);
-    let kind = base::hex_value(line[7]);
-    judge_tail(identity, kind, &line[8..])
+    let kind = base::hex_value(line[7]) as u32;
+    let page = Page {
+        identity: identity,
+        kind: kind,
+        start: at + 9,
+        length: text_length(line.len()),
+    };
+    judge_tail(page, &line[8..])
+}
+
+// Room for 48 pages.
+fn no_pages() -> [Page; 48]
+    ensures { λ r. ⌜ r ≡ replicate 48 noPage ⌝ }
+{
+    let none = Page {
+        identity: 0,
+        kind: 0,
+        start: 0,
+        length: 0,
+    };
+    [none; 48]
 }
 
 // A refused job: no page is kept.
@@ -307,21 +340,15 @@ fn refused(why: Refusal, place: usize) -> Pages
             why: why,
             place: place,
         },
-        identities: [0u32; 48],
-        kinds: [0u8; 48],
-        starts: [0usize; 48],
-        counts: [0usize; 48],
+        pages: no_pages(),
     }
 }
 
 // The pages of lines, or the refusal of the first faulty one. They are read once, front to back.
 fn read_lines(job: &[u8]) -> Pages
-    ensures { λ r. ⌜ r ≡ answerWith (judge 0 (split (now (job .entry)))) (pagesOf (now (job .entry))) ⌝ }
+    ensures { λ r. ⌜ r ≡ answerWith (judge 0 0 (split (now (job .entry)))) (pagesOf (now (job .entry))) ⌝ }
 {
-    let mut identities = [0u32; 48];
-    let mut kinds = [0u8; 48];
-    let mut starts = [0usize; 48];
-    let mut counts = [0usize; 48];
+    let mut pages = no_pages();
     let mut at = 0;
     let mut k = 0;
     while at < job.len() {
@@ -332,13 +359,10 @@ fn read_lines(job: &[u8]) -> Pages
         if job.len() <= end {
             return refused(Refusal::Malformed, k + 1);
         }
-        match read_line(&job[at..end]) {
+        match read_line(&job[at..end], at) {
             LineAnswer::Faulty(why) => return refused(why, k + 1),
-            LineAnswer::Good(identity, kind, count) => {
-                identities[k] = identity;
-                kinds[k] = kind;
-                starts[k] = at + 9;
-                counts[k] = count;
+            LineAnswer::Good(page) => {
+                pages[k] = page;
                 at = end + 1;
                 k += 1;
             }
@@ -346,10 +370,7 @@ fn read_lines(job: &[u8]) -> Pages
     }
     Pages {
         answer: JobAnswer::Accepted(k),
-        identities: identities,
-        kinds: kinds,
-        starts: starts,
-        counts: counts,
+        pages: pages,
     }
 }
 
@@ -363,19 +384,11 @@ pub fn read_job(job: &[u8]) -> Pages
     read_lines(job)
 }
 
-// The pairs of a page's text, a part of the job that starts mid-line: count pairs from start on, or what is left of them.
-pub fn page_text(job: &[u8], start: usize, count: usize) -> &[u8]
-    ensures { λ r. ⌜ now r ≡ take (2 * count) (drop start (now (job .entry))) ⌝ }
+// The digits of a page's text, a part of the job that starts mid-line.
+pub fn page_text(job: &[u8], page: Page) -> &[u8]
+    ensures { λ r. ⌜ now r ≡ digitsIn (now (job .entry)) page ⌝ }
 {
-    if job.len() < start {
-        return &job[..0];
-    }
-    let left = job.len() - start;
-    if left / 2 < count {
-        return &job[start..];
-    }
-    let end = start + 2 * count;
-    &job[start..end]
+    base::part(job, page.start, page.length)
 }
 
 // What printing a page line answers.

@@ -6,6 +6,7 @@ use native.Mathlib.Numerals.{add-one}
 use native.Mathlib.Omega.{arith}
 use lib.ListN.{length, set, take, drop, replicate, length-map}
 use lib.Seq.{take-length}
+use Rattle.base.specs.Hex.{bytesOf}
 use Rattle.base.specs.Lists.{over, tab, padded}
 use Rattle.base.proofs.ListLaws.{filled, filled-turn, filled-over, over-zeros, over-behind, over-length, tab-length, tab-at, tab-same}
 use Rattle.codeword.specs.Code.{codeword, messageBits}
@@ -36,15 +37,16 @@ unfolding startAt wordsOf
 laid-none xs old = record { at-is = refl; addresses-are = refl; starts-are = refl; lengths-are = refl; frames-are = refl; words-are = refl }
 
 -- the codewords of a text's groups are the message of its sending
-pub message-is : (identity kind : ℕ) (bytes : List ℕ) (n : ℕ) → n ≡ length (sendingFrom identity kind bytes .groups)
-    → tab (λ g. codeword (messageBits (groupOf (codingOf kind) bytes g))) n ≡ messagesOf (sendingFrom identity kind bytes)
+pub message-is : (identity kind : ℕ) (digits : List ℕ) (n : ℕ) → n ≡ length (sendingFrom identity kind digits .groups)
+    → tab (λ g. codeword (messageBits (groupOf (codingOf kind) (bytesOf digits) g))) n ≡ messagesOf (sendingFrom identity kind digits)
 unfolding groupsIn
-message-is identity kind bytes n e =
+message-is identity kind digits n e =
     let coding = codingOf kind in
+    let bytes = bytesOf digits in
     let count = groupsOf coding (length bytes) in
-    tab-same (λ g. codeword (messageBits (groupOf coding bytes g))) (messageOf (sendingFrom identity kind bytes)) n
+    tab-same (λ g. codeword (messageBits (groupOf coding bytes g))) (messageOf (sendingFrom identity kind digits)) n
     (λ g h. ap (λ (x : ℕ). codeword (messageBits x)) (sym (tab-at (groupOf coding bytes) count g 0 (omega (arith, tab-length (groupOf coding bytes) count)))))
-    ∙ ap (tab (messageOf (sendingFrom identity kind bytes))) e
+    ∙ ap (tab (messageOf (sendingFrom identity kind digits))) e
 
 module _ (xs : List Sending) (a : AllAllowed xs) (old : List ℕ) (room : length old ≡ 4032) where
   short : length (wordsOf xs) ≤ 4032

@@ -511,22 +511,23 @@ fn lay_out(job: &[u8], read: job::Pages, n: usize, words: &mut [u32]) -> PageTab
     let mut at: usize = 0;
     let mut i: usize = 0;
     while i < n {
-        let identity = read.identities[i];
-        let kind = read.kinds[i];
-        let count = read.counts[i];
+        let page = read.pages[i];
+        let identity = page.identity;
+        let kind = page.kind;
         let coding = job::coding(kind);
-        let groups = text::groups(coding, count as u16);
+        let groups = text::groups(coding, (page.length / 2) as u16);
         addresses[i] = Codeword::address(identity, job::function(kind)).word();
         starts[i] = at as u16;
         lengths[i] = groups as u16;
         frames[i] = (identity % 8) as u8;
-        let text = job::page_text(job, read.starts[i], count);
+        let text = job::page_text(job, page);
         write_message(coding, text, groups as u16, &mut words[at..]);
         at += groups;
         i += 1;
     }
+    let count = n as u32;
     PageTable {
-        count: n as u32,
+        count: count,
         addresses: addresses,
         starts: starts,
         lengths: lengths,

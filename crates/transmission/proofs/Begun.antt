@@ -8,6 +8,7 @@ use native.Mathlib.Omega.{arith}
 use native.Mathlib.Numerals.{add-one}
 use lib.ListN.{length, getD, set, length-set}
 use lib.Seq.{getD-set-same, getD-set-other}
+use Rattle.base.specs.Hex.{bytesOf}
 use Rattle.base.specs.Lists.{tab}
 use Rattle.text.specs.Coding.{groupOf, groupsIn}
 use Rattle.text.proofs.GroupLaws.{groups-length}
@@ -59,7 +60,7 @@ module _ (x : Sending) (s : ℕ) (words : List ℕ) where
   begun-more j e p q = let i : s + 1 + j ≡ s + suc j = omega arith in rw (e, p, q, i, add-one j, begun)
 
 -- a page's sending, where its text's groups are told by index
-pub packed-sending : (identity kind : ℕ) (bytes : List ℕ) (n : ℕ) {f : ℕ} {gs : List ℕ} → n ≡ length (sendingFrom identity kind bytes .groups)
-    → f ≡ functionOf kind → gs ≡ tab (groupOf (codingOf kind) bytes) n → _≡_ {A = Sending} (record { identity = identity; function = f; groups = gs }) (sendingFrom identity kind bytes)
+pub packed-sending : (identity kind : ℕ) (digits : List ℕ) (n : ℕ) {f : ℕ} {gs : List ℕ} → n ≡ length (sendingFrom identity kind digits .groups)
+    → f ≡ functionOf kind → gs ≡ tab (groupOf (codingOf kind) (bytesOf digits)) n → _≡_ {A = Sending} (record { identity = identity; function = f; groups = gs }) (sendingFrom identity kind digits)
 unfolding groupsIn
-packed-sending identity kind bytes n e p q = rw (p, q, e, groups-length (codingOf kind) bytes)
+packed-sending identity kind digits n e p q = rw (p, q, e, groups-length (codingOf kind) (bytesOf digits))

@@ -1,45 +1,77 @@
 -- What the pages that were read from an accepted job, and a plan of its sendings, say of page i. Assumes nothing.
-use Prim.Native.Nat.{ℕ, _+_, _*_, _≤_, _<_}
-use mathlib.Core.Path.{_≡_, sym, _∙_}
+use Prim.Native.Nat.{ℕ, _+_, _*_, _/_, _%_, _≤_, _<_}
+use mathlib.Core.Path.{_≡_, sym, ap, _∙_}
 use mathlib.Core.List.{List}
 use native.Mathlib.Numerals.{add-one}
 use native.Mathlib.Omega.{arith}
-use lib.ListN.{length, getD, take, drop}
+use lib.ListN.{length, getD, length-map}
 use Rattle.base.specs.Hex.{bytesOf}
+use Rattle.base.specs.Lines.{split, lineAt}
+use Rattle.base.proofs.HexLaws.{bytes-length}
+use Rattle.text.specs.Coding.{groupsOf}
+use Rattle.text.proofs.GroupLaws.{groups-length}
+use Rattle.job.specs.Line.{codingOf, kindOf, textPairs}
+use Rattle.job.specs.Pages.{noPage, pageAt, digitsAt}
 use Rattle.job.specs.Job.{jobOf, readingOf}
 use Rattle.job.specs.declared.JobAnswer.the-variants.{Accepted}
 use Rattle.job.specs.declared.Pages.{Pages}
-use Rattle.job.proofs.Accepted.{accepted-job}
+use Rattle.job.proofs.Accepted.{longest-few, accepted-job}
 use Rattle.placement.specs.Placement.{slotOf}
-use Rattle.transmission.specs.Sending.{Sending, sendingFrom, sendingsOf, sendingAt, placementOf}
+use Rattle.transmission.specs.Sending.{Sending, sendingOf, sendingsOf, sendingAt, framesOf, countsOf, placementOf}
 use Rattle.transmission.specs.Transmitted.{slotIndex}
 use Rattle.transmission.specs.Writing.{Planned, withSending, withSendings}
-use Rattle.transmission.proofs.Sendings.{sending-at, words-at, pages-are, sendings-count, accepted-sendings, sendings-placed, sendings-limits}
+use Rattle.transmission.proofs.Sendings.{sending-at, frame-at, words-at, pages-are, sendings-count, accepted-sendings, sendings-placed, sendings-limits}
 
--- page i is sent as sending i
-pub page-sending : (s : List ℕ) (n : ℕ) → jobOf s ≡ Accepted n → (pages : Pages) → pages ≡ readingOf s → (i : ℕ) → i < n
-    → {text : List ℕ} → text ≡ take (2 * getD (pages .counts) i 0) (drop (getD (pages .starts) i 0) s)
-    → sendingFrom (getD (pages .identities) i 0) (getD (pages .kinds) i 0) (bytesOf text) ≡ sendingAt (sendingsOf s) i
-page-sending s n ok pages e i h q =
-    let p = accepted-job s n ok .page i h in
-    rw (q, e, p .kept-identity, p .kept-kind, p .kept-count, p .kept-start, p .bytes) (sym (sending-at s i))
+-- ---- page i as it was read
+
+module _ (s : List ℕ) (n : ℕ) (ok : jobOf s ≡ Accepted n) {read : Pages} (e : read ≡ readingOf s) (i : ℕ) (h : i < n) where
+  -- its sending
+  pub page-sending : sendingOf s (getD (read .pages) i noPage) ≡ sendingAt (sendingsOf s) i
+  page-sending = rw (e, accepted-job s n ok .page i h .read) (sym (sending-at s i))
+
+  pub frame-is : getD (read .pages) i noPage .identity % 8 ≡ getD (framesOf (sendingsOf s)) i 0
+  frame-is = ap (λ (x : Sending). x .identity % 8) page-sending ∙ sym (frame-at (sendingsOf s) i)
+
+  -- how many characters and groups its text has
+  pub few-characters : getD (read .pages) i noPage .length / 2 ≤ 240
+  few-characters =
+      let a = accepted-job s n ok in
+      let p = a .page i h in
+      let l = lineAt i (split s) in
+      rw (e, p .read, p .length-is, p .digits-are) (omega (arith, a .sound i h .most, longest-few (kindOf l), bytes-length (textPairs l)))
+
+  pub groups-are : groupsOf (codingOf (getD (read .pages) i noPage .kind)) (getD (read .pages) i noPage .length / 2) ≡ length (sendingAt (sendingsOf s) i .groups)
+  groups-are =
+      let p = accepted-job s n ok .page i h in
+      rw (e, p .read, p .length-is, sending-at s i, ← bytes-length (digitsAt s i)) (sym (groups-length (codingOf (pageAt s i .kind)) (bytesOf (digitsAt s i))))
+
+  pub count-is : groupsOf (codingOf (getD (read .pages) i noPage .kind)) (getD (read .pages) i noPage .length / 2) ≡ getD (countsOf (sendingsOf s)) i 0
+  count-is = groups-are ∙ sym (words-at (sendingsOf s) i)
+
+-- ---- page i by the plan
 
 module _ (s : List ℕ) (n : ℕ) (ok : jobOf s ≡ Accepted n) {groups places : List ℕ} {room : ℕ} (plan : Planned (sendingsOf s) groups places room) (i : ℕ) (h : i < n) where
   listed : i < length (sendingsOf s)
   listed = omega (arith, sendings-count s n ok)
 
+  pub in-groups : i < length groups
+  in-groups = rw (plan .counted) (omega (arith, listed, length-map (sendingsOf s) (λ (x : Sending). length (x .groups))))
+
+  count-at : getD groups i 0 ≡ length (sendingAt (sendingsOf s) i .groups)
+  count-at = rw (plan .counted) (words-at (sendingsOf s) i)
+
   pub brief : getD groups i 0 ≤ 84
-  brief = rw (plan .counted i listed) (accepted-sendings s n ok .each i listed .brief)
+  brief = rw count-at (accepted-sendings s n ok .each i listed .brief)
 
   pub counted : {x : Sending} → x ≡ sendingAt (sendingsOf s) i → getD groups i 0 ≡ length (x .groups)
-  counted q = rw q (plan .counted i listed)
+  counted q = rw q count-at
 
   -- its slots lie inside the batches, so its words in the room
   inside : (slotOf (placementOf (sendingsOf s)) i < 4800) × (slotIndex (slotOf (placementOf (sendingsOf s)) i + getD groups i 0) < room)
   inside =
       let a = accepted-sendings s n ok in
       let p = sendings-placed a .inside i (omega (arith, listed, pages-are (sendingsOf s))) in
-      let w : placementOf (sendingsOf s) .words i ≡ getD groups i 0 = words-at (sendingsOf s) i ∙ sym (plan .counted i listed) in
+      let w : placementOf (sendingsOf s) .words i ≡ getD groups i 0 = words-at (sendingsOf s) i ∙ sym count-at in
       (sendings-limits a .below _ (omega arith), omega (arith, plan .exact))
 
   pub low : getD places i 0 < 4800

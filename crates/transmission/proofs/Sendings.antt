@@ -5,12 +5,13 @@ use mathlib.Core.Path.{_≡_, sym, _∙_}
 use mathlib.Core.List.{List}
 use native.Mathlib.Omega.{arith}
 use lib.ListN.{length, length-map, List·getD-map}
+use Rattle.base.specs.Hex.{bytesOf}
 use Rattle.base.specs.Search.{sum}
 use Rattle.base.specs.Lists.{tab}
 use Rattle.text.specs.Coding.{groupsIn}
 use Rattle.text.proofs.GroupLaws.{groups-length, groups-small}
 use Rattle.job.specs.Line.{codingOf, functionOf}
-use Rattle.job.specs.Pages.{pagesOf, noPage, pageAt}
+use Rattle.job.specs.Pages.{pagesOf, noPage, pageAt, digitsAt}
 use Rattle.job.specs.Job.{jobOf}
 use Rattle.job.specs.declared.JobAnswer.the-variants.{Accepted}
 use Rattle.job.proofs.Accepted.{accepted-job}
@@ -23,12 +24,12 @@ use Rattle.transmission.specs.Sending.{Sending, noSending, sendingOf, se
 
 sendings-length : (s : List ℕ) → length (sendingsOf s) ≡ length (pagesOf s)
 unfolding sendingsOf
-sendings-length s = length-map (pagesOf s) sendingOf
+sendings-length s = length-map (pagesOf s) (sendingOf s)
 
 -- the sending at an index is that of the page there
-pub sending-at : (s : List ℕ) (i : ℕ) → sendingAt (sendingsOf s) i ≡ sendingOf (pageAt s i)
+pub sending-at : (s : List ℕ) (i : ℕ) → sendingAt (sendingsOf s) i ≡ sendingOf s (pageAt s i)
 unfolding sendingsOf functionOf codingOf groupsIn tab
-sending-at s i = List·getD-map sendingOf (pagesOf s) i noPage
+sending-at s i = List·getD-map (sendingOf s) (pagesOf s) i noPage
 
 pub frame-at : (xs : List Sending) (i : ℕ) → placementOf xs .frame i ≡ sendingAt xs i .identity % 8
 frame-at xs i = List·getD-map (λ (x : Sending). x .identity % 8) xs i noSending
@@ -78,7 +79,7 @@ module _ (s : List ℕ) (n : ℕ) (ok : jobOf s ≡ Accepted n) where
   pub sendings-count : length (sendingsOf s) ≡ n
   sendings-count = sendings-length s ∙ accepted-job s n ok .pages
 
-  allowed-at : (i : ℕ) → i < n → Allowed (sendingOf (pageAt s i))
+  allowed-at : (i : ℕ) → i < n → Allowed (sendingOf s (pageAt s i))
   allowed-at i h =
       let a = accepted-job s n ok in
       let p = a .page i h in
@@ -87,8 +88,8 @@ module _ (s : List ℕ) (n : ℕ) (ok : jobOf s ≡ Accepted n) where
         in-range = rw (p .identity-is) (omega (arith, l .in-range));
         free = rw (p .identity-is) (l .free);
         two-bits = rw (p .kind-is) (l .function);
-        brief = rw (groups-length, p .kind-is, p .text-is) (l .brief);
-        small = groups-small (codingOf (pageAt s i .kind)) (pageAt s i .text);
+        brief = rw (groups-length, p .kind-is, p .digits-are) (l .brief);
+        small = groups-small (codingOf (pageAt s i .kind)) (bytesOf (digitsAt s i));
       }
 
   pub accepted-sendings : AllAllowed (sendingsOf s)

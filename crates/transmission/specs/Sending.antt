@@ -5,9 +5,11 @@ use mathlib.Core.Path.{_≡_}
 use mathlib.Core.Bool.{false}
 use mathlib.Core.List.{List, [], map}
 use lib.ListN.{length, getD}
+use Rattle.base.specs.Hex.{bytesOf}
 use Rattle.text.specs.Coding.{groupsIn}
 use Rattle.job.specs.Line.{isReserved, codingOf, functionOf}
-use Rattle.job.specs.Pages.{Page, pagesOf}
+use Rattle.job.specs.Pages.{pagesOf, digitsIn}
+use Rattle.job.specs.declared.Page.{Page}
 use Rattle.placement.specs.Placement as placement
 use Rattle.placement.specs.Placement.{Job}
 
@@ -17,17 +19,17 @@ pub record Sending : Type 0 where
   pub function : ℕ
   pub groups : List ℕ
 
--- what an identity, a kind and the bytes of a text are sent as
+-- what an identity, a kind and the digits of a text are sent as
 abbrev pub sendingFrom : ℕ → ℕ → List ℕ → Sending
-sendingFrom identity kind bytes = record { identity = identity; function = functionOf kind; groups = groupsIn (codingOf kind) bytes }
+sendingFrom identity kind digits = record { identity = identity; function = functionOf kind; groups = groupsIn (codingOf kind) (bytesOf digits) }
 
--- a page as it is sent
-abbrev pub sendingOf : Page → Sending
-sendingOf p = sendingFrom (p .identity) (p .kind) (p .text)
+-- a page of a job as it is sent
+abbrev pub sendingOf : List ℕ → Page → Sending
+sendingOf s p = sendingFrom (p .identity) (p .kind) (digitsIn s p)
 
 -- the sendings of a job, in job order
 unfoldable pub sendingsOf : List ℕ → List Sending
-sendingsOf s = map sendingOf (pagesOf s)
+sendingsOf s = map (sendingOf s) (pagesOf s)
 
 -- the sending at an index; an empty one where there is none
 abbrev pub noSending : Sending

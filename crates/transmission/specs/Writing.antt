@@ -8,7 +8,7 @@ use lib.ListN.{length, getD, set}
 use lib.Dec.{eqb, ltb}
 use Rattle.codeword.specs.Code as code
 use Rattle.placement.specs.Placement.{slotOf}
-use Rattle.transmission.specs.Sending.{Sending, sendingAt, placementOf}
+use Rattle.transmission.specs.Sending.{Sending, sendingAt, countsOf, placementOf}
 use Rattle.transmission.specs.Transmission.{addressOf, messageOf, preamble, wordCount}
 use Rattle.transmission.specs.Transmitted.{slotIndex}
 
@@ -37,6 +37,6 @@ withSendings xs (suc n) words = withSending (sendingAt xs n) (slotOf (placementO
 
 -- what is known before the first word is written: each sending's number of groups and its slot, and room for just the transmission
 pub record Planned (xs : List Sending) (groups places : List ℕ) (room : ℕ) : Type 0 where
-  pub counted : (i : ℕ) → i < length xs → getD groups i 0 ≡ length (sendingAt xs i .groups)
+  pub counted : groups ≡ countsOf xs
   pub placed : (i : ℕ) → i < length xs → getD places i 0 ≡ slotOf (placementOf xs) i
   pub exact : room ≡ wordCount (placementOf xs)

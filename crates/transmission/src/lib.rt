@@ -1,19 +1,17 @@
 // A job's words: sending a job into lent slices (document 01, "Placement").
 ghost use mathlib.Core.Path.{_≡_};
-ghost use Prim.Native.Nat.{ℕ, _+_, _%_, _≤_, _<_};
-ghost use lib.ListN.{length, getD};
-ghost use Rattle.base.specs.Hex.{bytesOf};
+ghost use Prim.Native.Nat.{_+_, _≤_, _<_};
+ghost use lib.ListN.{length};
 ghost use Rattle.base.specs.Lists.{over, tab};
-ghost use Rattle.text.specs.Coding.{groupsOf};
-ghost use Rattle.job.specs.Line.{codingOf};
 ghost use Rattle.job.specs.Job.{jobOf, readingOf};
-ghost use Rattle.transmission.specs.Sending.{sendingFrom, sendingsOf};
+ghost use Rattle.transmission.specs.Sending.{sendingFrom, sendingOf, sendingsOf};
 ghost use Rattle.transmission.specs.Transmission.{transmissionOf};
 ghost use Rattle.transmission.specs.Transmitted.{slotIndex};
 ghost use Rattle.transmission.specs.Report.{sentInto, reportOf, wordsSent, slotsSent, numberOf, placeOf, positionOf};
 ghost use Rattle.transmission.specs.Writing.{Planned, blankAt, withSending};
 use codeword::Codeword;
 use job::JobAnswer;
+use job::Page;
 use job::Pages;
 use job::Refusal;
 
@@ -78,34 +76,6 @@ pub fn position(r: Report) -> usize
     }
 }
 
-// Each identity's frame: its low three bits.
-fn frames_of(identities: &[u32; 48]) -> [u8; 48]
-    ensures { λ r. ⌜ r ≡ tab (λ i. getD (now (identities .entry)) i 0 % 8) 48 ⌝ }
-{
-    let mut frames = [0u8; 48];
-    let mut i = 0;
-    while i < 48 {
-        frames[i] = (identities[i] % 8) as u8;
-        i += 1;
-    }
-    frames
-}
-
-// How many groups each text takes, by its kind and its number of characters.
-fn group_counts<'a>(kinds: &'a [u8; 48], counts: &'a [usize; 48]) -> [u32; 48]
-    requires { ⌜ ((i : ℕ) → getD (now counts) i 0 ≤ 240) ⌝ }
-    ensures { λ r. ⌜ r ≡ tab (λ i. groupsOf (codingOf (getD (now (kinds .entry)) i 0)) (getD (now (counts .entry)) i 0)) 48 ⌝ }
-{
-    let mut groups = [0u32; 48];
-    let mut i = 0;
-    while i < 48 {
-        let count = counts[i] as u16;
-        groups[i] = text::groups(job::coding(kinds[i]), count) as u32;
-        i += 1;
-    }
-    groups
-}
-
 // Word k of a transmission whose slots are all idle.
 fn blank_word(k: usize) -> u32
     ensures { λ r. ⌜ r ≡ blankAt k ⌝ }
@@ -159,43 +129,51 @@ fn write_sending(identity: u32, function: u32, groups: &[u32], slot: u32, words:
 // A page's codewords from its slot on; the groups of its text fill a slice of just their number first.
 fn write_packed(
     identity: u32,
-    kind: u8,
+    kind: u32,
     text: &[u8],
     groups: &mut [u32],
     slot: u32,
     words: &mut [u32],
 )
-    requires { ⌜ length (now groups) ≡ length (sendingFrom identity kind (bytesOf (now text)) .groups) ⌝ }
+    requires { ⌜ length (now groups) ≡ length (sendingFrom identity kind (now text) .groups) ⌝ }
     requires { ⌜ (length (now groups) ≤ 84) × (slot < 4800) ⌝ }
     requires { ⌜ slotIndex (slot + length (now groups)) < length (now words) ⌝ }
-    ensures { λ _. ⌜ now (words .exit) ≡ withSending (sendingFrom identity kind (bytesOf (now (text .entry)))) slot (now (words .entry)) ⌝ }
+    ensures { λ _. ⌜ now (words .exit) ≡ withSending (sendingFrom identity kind (now (text .entry))) slot (now (words .entry)) ⌝ }
 {
     text::write_groups(job::coding(kind), text, groups);
     write_sending(identity, job::function(kind), groups, slot, words);
 }
 
 // A page's address codeword at its slot, and its message codewords directly behind.
-fn write_page(identity: u32, kind: u8, text: &[u8], groups: u32, slot: u32, words: &mut [u32])
-    requires { ⌜ groups ≡ length (sendingFrom identity kind (bytesOf (now text)) .groups) ⌝ }
+fn write_page(job: &[u8], page: Page, groups: u32, slot: u32, words: &mut [u32])
+    requires { ⌜ groups ≡ length (sendingOf (now job) page .groups) ⌝ }
     requires { ⌜ (groups ≤ 84) × (slot < 4800) ⌝ }
     requires { ⌜ slotIndex (slot + groups) < length (now words) ⌝ }
-    ensures { λ _. ⌜ now (words .exit) ≡ withSending (sendingFrom identity kind (bytesOf (now (text .entry)))) slot (now (words .entry)) ⌝ }
+    ensures { λ _. ⌜ now (words .exit) ≡ withSending (sendingOf (now (job .entry)) page) slot (now (words .entry)) ⌝ }
 {
     let n = groups as usize;
     let mut packed = [0u32; 84];
-    write_packed(identity, kind, text, &mut packed[..n], slot, words);
+    let text = job::page_text(job, page);
+    write_packed(
+        page.identity,
+        page.kind,
+        text,
+        &mut packed[..n],
+        slot,
+        words,
+    );
 }
 
 // The transmission of a job's n pages over a slice of just its length, by each page's number of groups and its slot.
 fn write_pages(
     job: &[u8],
-    pages: Pages,
+    read: Pages,
     n: usize,
-    groups: &[u32; 48],
+    groups: &[u32],
     places: &[u32; 48],
     words: &mut [u32],
 )
-    requires { ⌜ pages ≡ readingOf (now job) ⌝ }
+    requires { ⌜ read ≡ readingOf (now job) ⌝ }
     requires { ⌜ jobOf (now job) ≡ JobAnswer.Accepted n ⌝ }
     requires { ⌜ Planned (sendingsOf (now job)) (now groups) (now places) (length (now words)) ⌝ }
     ensures { λ _. ⌜ now (words .exit) ≡ transmissionOf (sendingsOf (now (job .entry))) ⌝ }
@@ -203,15 +181,7 @@ fn write_pages(
     write_blank(words);
     let mut i = 0;
     while i < n {
-        let text = job::page_text(job, pages.starts[i], pages.counts[i]);
-        write_page(
-            pages.identities[i],
-            pages.kinds[i],
-            text,
-            groups[i],
-            places[i],
-            words,
-        );
+        write_page(job, read.pages[i], groups[i], places[i], words);
         i += 1;
     }
 }
@@ -229,16 +199,24 @@ fn copy_front(from: &[u32], to: &mut [u32])
     }
 }
 
-// The n pages of an accepted job into the two slices, or number 10. Nothing is written before both have room.
-fn send_pages(job: &[u8], pages: Pages, n: usize, words: &mut [u32], slots: &mut [u32]) -> Report
-    requires { ⌜ pages ≡ readingOf (now job) ⌝ }
+// The n pages of an accepted job into the two slices, or number 10. A page's frame is its identity's low three bits. Nothing is written
+// before both slices have room.
+fn send_pages(job: &[u8], read: Pages, n: usize, words: &mut [u32], slots: &mut [u32]) -> Report
+    requires { ⌜ read ≡ readingOf (now job) ⌝ }
     requires { ⌜ jobOf (now job) ≡ JobAnswer.Accepted n ⌝ }
     ensures { λ r. ⌜ r ≡ sentInto (sendingsOf (now (job .entry))) (length (now (words .entry))) (length (now (slots .entry))) ⌝ }
     ensures { λ r. ⌜ now (words .exit) ≡ over (now (words .entry)) (wordsSent r (sendingsOf (now (job .entry)))) ⌝ }
     ensures { λ r. ⌜ now (slots .exit) ≡ over (now (slots .entry)) (slotsSent r (sendingsOf (now (job .entry)))) ⌝ }
 {
-    let frames = frames_of(&pages.identities);
-    let groups = group_counts(&pages.kinds, &pages.counts);
+    let mut frames = [0u8; 48];
+    let mut groups = [0u32; 48];
+    let mut k = 0;
+    while k < n {
+        let page = read.pages[k];
+        frames[k] = (page.identity % 8) as u8;
+        groups[k] = text::groups(job::coding(page.kind), (page.length / 2) as u16) as u32;
+        k += 1;
+    }
     let mut places = [0u32; 48];
     let batches = placement::place(&frames[..n], &groups[..n], &mut places);
     let count = 18 + 17 * batches;
@@ -249,7 +227,7 @@ fn send_pages(job: &[u8], pages: Pages, n: usize, words: &mut [u32], slots: &mut
     if slots.len() < n {
         return Report::NoRoom;
     }
-    write_pages(job, pages, n, &groups, &places, &mut words[..room]);
+    write_pages(job, read, n, &groups[..n], &places, &mut words[..room]);
     copy_front(&places[..n], slots);
     Report::Sent {
         batches: batches,
@@ -264,13 +242,13 @@ pub fn send(job: &[u8], words: &mut [u32], slots: &mut [u32]) -> Report
     ensures { λ r. ⌜ now (words .exit) ≡ over (now (words .entry)) (wordsSent r (sendingsOf (now (job .entry)))) ⌝ }
     ensures { λ r. ⌜ now (slots .exit) ≡ over (now (slots .entry)) (slotsSent r (sendingsOf (now (job .entry)))) ⌝ }
 {
-    let pages = job::read_job(job);
-    let answer = pages.answer;
+    let read = job::read_job(job);
+    let answer = read.answer;
     match answer {
         JobAnswer::Refused { why, place } => Report::Declined {
             why: why,
             place: place,
         },
-        JobAnswer::Accepted(n) => send_pages(job, pages, n, words, slots),
+        JobAnswer::Accepted(n) => send_pages(job, read, n, words, slots),
     }
 }

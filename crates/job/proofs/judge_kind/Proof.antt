@@ -15,19 +15,19 @@ judge-text-requires c κs = search needs
 returns : tie.Need-returns
 unfolding kindPageOf
 returns c =
-    let k = c .before .before .before .args .kind in
+    let k = c .before .before .before .args .page .kind in
     rw (c .judge-tone .ensures) (simp (le-leb 0 k (omega arith), le-leb k 3 (omega arith)))
 
 returns-2 : tie.Need-returns-2
 unfolding kindPageOf
 returns-2 c =
-    let k = c .before .before .before .before .args .kind in
+    let k = c .before .before .before .before .args .page .kind in
     rw (c .judge-text .ensures) (simp (le-leb 0 k (omega arith), lt-leb k 3 (omega arith), le-leb 4 k (omega arith), le-leb k 5 (omega arith)))
 
 returns-3 : tie.Need-returns-3
 unfolding kindPageOf
 returns-3 c =
-    let k = c .before .before .before .args .kind in
+    let k = c .before .before .before .args .page .kind in
     simp (le-leb 0 k (omega arith), lt-leb k 3 (omega arith), le-leb 4 k (omega arith), lt-leb k 5 (omega arith))
 
 pub judge-kind-spec : {M : Type 1} → statement M

@@ -13,7 +13,7 @@ use Rattle.job.proofs.judge_tail.Statement.{statement}
 use Rattle.job.proofs.judge_tail.Tie as tie
 
 judge-page-requires : tie.Need-judge-page-requires
-judge-page-requires c κs = let a = c .before .before .args in empty-run (now (a .t)) (a .kind) (c .if1 .taken)
+judge-page-requires c κs = let a = c .before .before .args in empty-run (now (a .t)) (a .page .kind) (c .if1 .taken)
 
 returns : tie.Need-returns
 unfolding tailFormed

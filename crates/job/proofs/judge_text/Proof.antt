@@ -11,13 +11,13 @@ use Rattle.text.specs.Coding.{endsInSpace}
 use Rattle.text.specs.declared.Coding.{Coding}
 use Rattle.job.specs.Line.{longestOf, codingOf, goodRun, textPageOf}
 use Rattle.job.specs.declared.Refusal.the-variants.{Character}
-use Rattle.job.specs.declared.LineAnswer.the-variants.{Good, Faulty}
+use Rattle.job.specs.declared.LineAnswer.the-variants.{Faulty}
 use borrow.Author.Needs.{needs}
 use Rattle.job.proofs.judge_text.Statement.{statement}
 use Rattle.job.proofs.judge_text.Tie as tie
 
 -- The space at the end, as the definition has it.
-spaced : (c : tie.After-ends-in-space) → c .ends-in-space .result ≡ endsInSpace (codingOf (c .before .before .before .before .before .before .before .args .kind)) (bytesOf (now (c .before .before .before .before .before .before .before .args .text)))
+spaced : (c : tie.After-ends-in-space) → c .ends-in-space .result ≡ endsInSpace (codingOf (c .before .before .before .before .before .before .before .args .page .kind)) (bytesOf (now (c .before .before .before .before .before .before .before .args .text)))
 spaced c = c .ends-in-space .ensures ∙ ap (λ (x : Coding). endsInSpace x (bytesOf (now (c .before .before .before .before .before .before .before .args .text)))) (c .before .coding .ensures)
 
 returns : tie.Need-returns
@@ -33,7 +33,7 @@ returns-2 c =
     let a = c .before .before .before .before .args in
     let b = bytesOf (now (a .text)) in
     let n = bytes-length (now (a .text)) in
-    simp (ne-eqb (length b) 0 (λ e. c .before .before .if1 .left (sym n ∙ e)), lt-ltb (longestOf (a .kind)) (length b) (omega arith))
+    simp (ne-eqb (length b) 0 (λ e. c .before .before .if1 .left (sym n ∙ e)), lt-ltb (longestOf (a .page .kind)) (length b) (omega arith))
 
 add-position : tie.Need-add-position
 add-position c = search needs
@@ -44,7 +44,7 @@ returns-3 c =
     let a = c .before .before .before .before .before .args in
     let b = bytesOf (now (a .text)) in
     let n = bytes-length (now (a .text)) in
-    simp (ne-eqb (length b) 0 (λ e. c .before .before .before .if1 .left (sym n ∙ e)), le-ltb (longestOf (a .kind)) (length b) (omega arith), lt-ltb (goodRun (a .kind) b) (length b) (omega arith))
+    simp (ne-eqb (length b) 0 (λ e. c .before .before .before .if1 .left (sym n ∙ e)), le-ltb (longestOf (a .page .kind)) (length b) (omega arith), lt-ltb (goodRun (a .page .kind) b) (length b) (omega arith))
     (ap (λ (x : ℕ). Faulty (Character (x + 1))) (c .before .before .before .before .before .pre))
 
 coding-requires : tie.Need-coding-requires
@@ -59,7 +59,7 @@ returns-4 c =
     let a = c .before .before .before .before .before .before .before .before .args in
     let b = bytesOf (now (a .text)) in
     let n = bytes-length (now (a .text)) in
-    simp (ne-eqb (length b) 0 (λ e. c .before .before .before .before .before .before .if1 .left (sym n ∙ e)), le-ltb (longestOf (a .kind)) (length b) (omega arith), le-ltb (goodRun (a .kind) b) (length b) (omega arith), sym (spaced (c .before)) ∙ c .if4 .taken)
+    simp (ne-eqb (length b) 0 (λ e. c .before .before .before .before .before .before .if1 .left (sym n ∙ e)), le-ltb (longestOf (a .page .kind)) (length b) (omega arith), le-ltb (goodRun (a .page .kind) b) (length b) (omega arith), sym (spaced (c .before)) ∙ c .if4 .taken)
 
 returns-5 : tie.Need-returns-5
 unfolding textPageOf
@@ -67,8 +67,7 @@ returns-5 c =
     let a = c .before .before .before .before .before .before .before .before .args in
     let b = bytesOf (now (a .text)) in
     let n = bytes-length (now (a .text)) in
-    simp (ne-eqb (length b) 0 (λ e. c .before .before .before .before .before .before .if1 .left (sym n ∙ e)), le-ltb (longestOf (a .kind)) (length b) (omega arith), le-ltb (goodRun (a .kind) b) (length b) (omega arith), sym (spaced (c .before)) ∙ c .if4 .left)
-    (ap (Good (a .identity) (a .kind)) (sym n))
+    simp (ne-eqb (length b) 0 (λ e. c .before .before .before .before .before .before .if1 .left (sym n ∙ e)), le-ltb (longestOf (a .page .kind)) (length b) (omega arith), le-ltb (goodRun (a .page .kind) b) (length b) (omega arith), sym (spaced (c .before)) ∙ c .if4 .left)
 
 pub judge-text-spec : {M : Type 1} → statement M
 judge-text-spec =

@@ -46,11 +46,20 @@ shared-slice-read-hex-value c = let h = long (c .before .before .before) in omeg
 hex-value-requires : tie.Need-hex-value-requires
 hex-value-requires c κs = search needs
 
+cast-kind : tie.Need-cast-kind
+cast-kind c = search needs
+
+add-judge-tail : tie.Need-add-judge-tail
+add-judge-tail c = search needs
+
+text-length-requires : tie.Need-text-length-requires
+text-length-requires c κs = search needs
+
 sub-judge-tail : tie.Need-sub-judge-tail
-sub-judge-tail c = long (c .before .before .before .before)
+sub-judge-tail c = long (c .before .before .before .before .before)
 
 part-judge-tail-start : tie.Need-part-judge-tail-start
-part-judge-tail-start c = long (c .before .before .before .before)
+part-judge-tail-start c = long (c .before .before .before .before .before)
 
 part-judge-tail-end : tie.Need-part-judge-tail-end
 part-judge-tail-end c = search needs
@@ -60,8 +69,12 @@ judge-tail-requires c κs = search needs
 
 returns-2 : tie.Need-returns-2
 unfolding lineOf wellFormed
-returns-2 c = let l = now (c .before .before .before .before .before .before .before .before .before .args .line) in
-    rw (c .judge-tail .ensures, number (c .before .before .before .before), c .before .before .hex-value .ensures, to-end 8 l, drop-drop 1 8 l, head (c .before .before .before .before .before .before))
+returns-2 c =
+    let n = c .before .before in
+    let v = n .before in
+    let a = v .before .before .before .before .before .before .before .args in
+    let l = now (a .line) in
+    rw (c .judge-tail .ensures, number (v .before .before), v .hex-value .ensures, n .text-length .ensures, to-end 8 l, drop-drop 1 8 l, head (v .before .before .before .before))
 
 pub read-line-spec : {M : Type 1} → statement M
 read-line-spec =
@@ -73,6 +86,9 @@ read-line-spec =
     hex-number-requires
     shared-slice-read-hex-value
     hex-value-requires
+    cast-kind
+    add-judge-tail
+    text-length-requires
     sub-judge-tail
     part-judge-tail-start
     part-judge-tail-end

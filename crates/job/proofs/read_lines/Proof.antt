@@ -13,17 +13,20 @@ use Rattle.job.proofs.read_lines.Statement.{statement}
 use Rattle.job.proofs.read_lines.Tie as tie
 
 abbrev Inv-loop : tie.InvT-loop
-Inv-loop job identities₀ kinds₀ starts₀ counts₀ at₀ k₀ identities kinds starts counts at k = Keeping job at k identities kinds starts counts
+Inv-loop job pages₀ at₀ k₀ pages at k = Keeping job at k pages
 
 abbrev μ-loop : tie.MeasureT-loop
-μ-loop job identities₀ kinds₀ starts₀ counts₀ at₀ k₀ identities kinds starts counts at k = length job - at
+μ-loop job pages₀ at₀ k₀ pages at k = length job - at
 
 -- where the line ends
 ended : (c : tie.After-line-end Inv-loop μ-loop) → c .before .before .before .loop .at ≤ c .line-end .result
-ended c = rw (c .line-end .ensures) (end-after (now (c .before .before .before .before .before .args .job)) (c .before .before .before .loop .at))
+ended c = rw (c .line-end .ensures) (end-after (now (c .before .before .before .before .before .before .args .job)) (c .before .before .before .loop .at))
+
+no-pages-requires : tie.Need-no-pages-requires Inv-loop μ-loop
+no-pages-requires c κs = search needs
 
 loop-holds : tie.Need-loop-holds Inv-loop μ-loop
-loop-holds c = keeping-none (now (c .before .args .job))
+loop-holds c = rw (c .no-pages .ensures) (keeping-none (now (c .before .before .args .job)))
 
 refused-requires : tie.Need-refused-requires Inv-loop μ-loop
 refused-requires c κs = search needs
@@ -31,7 +34,7 @@ refused-requires c κs = search needs
 returns : tie.Need-returns Inv-loop μ-loop
 returns c =
     let l = c .before .before .before in
-    let job = now (l .before .before .args .job) in
+    let job = now (l .before .before .before .args .job) in
     c .refused .ensures
     ∙ answer-refused _ (pagesOf job) (l .loop .inv .answer ∙ judge-many job (l .loop .at) (l .loop .k) (omega arith) (omega arith))
 
@@ -47,7 +50,7 @@ refused-requires-2 c κs = search needs
 returns-2 : tie.Need-returns-2 Inv-loop μ-loop
 returns-2 c =
     let l = c .before .before .before .before .before in
-    let job = now (l .before .before .args .job) in
+    let job = now (l .before .before .before .args .job) in
     let q = c .before .before .line-end .ensures in
     c .refused2 .ensures
     ∙ answer-refused _ (pagesOf job) (l .loop .inv .answer ∙ judge-unended job (l .loop .at) (l .loop .k) (omega arith) (omega arith) (omega arith))
@@ -76,37 +79,19 @@ refused-requires-3 c κs = search needs
 returns-3 : tie.Need-returns-3 Inv-loop μ-loop
 returns-3 c =
     let l = c .before .before .before .before .before .before .before .before .before .before in
-    let job = now (l .before .before .args .job) in
+    let job = now (l .before .before .before .args .job) in
     c .refused3 .ensures
     ∙ answer-refused _ (pagesOf job) (l .loop .inv .answer ∙ judge-line job (l .loop .at) (l .loop .k) (c .before .before .before .before .before .before .before .line-end .ensures) (omega arith) (omega arith)
     (sym (c .before .before .why .given .1) ∙ c .before .before .before .before .read-line .ensures))
 
-enum-known-identity : tie.Need-enum-known-identity Inv-loop μ-loop
-enum-known-identity c = search needs
+enum-known-page : tie.Need-enum-known-page Inv-loop μ-loop
+enum-known-page c = search needs
 
-mul-identities : tie.Need-mul-identities Inv-loop μ-loop
-mul-identities c = search needs
+mul-pages : tie.Need-mul-pages Inv-loop μ-loop
+mul-pages c = search needs
 
-array-write-identities : tie.Need-array-write-identities Inv-loop μ-loop
-array-write-identities c = search needs
-
-array-write-kinds : tie.Need-array-write-kinds Inv-loop μ-loop
-array-write-kinds c = search needs
-
-add-starts : tie.Need-add-starts Inv-loop μ-loop
-add-starts c = search needs
-
-mul-starts : tie.Need-mul-starts Inv-loop μ-loop
-mul-starts c = search needs
-
-array-write-starts : tie.Need-array-write-starts Inv-loop μ-loop
-array-write-starts c = search needs
-
-mul-counts : tie.Need-mul-counts Inv-loop μ-loop
-mul-counts c = search needs
-
-array-write-counts : tie.Need-array-write-counts Inv-loop μ-loop
-array-write-counts c = search needs
+array-set-from-pages : tie.Need-array-set-from-pages Inv-loop μ-loop
+array-set-from-pages c = search needs
 
 add-at : tie.Need-add-at Inv-loop μ-loop
 add-at c = search needs
@@ -120,14 +105,14 @@ loop-less c = omega (arith, ended (c .before .before .before .before .before .be
 loop-again : tie.Need-loop-again Inv-loop μ-loop
 loop-again c =
     let l = c .before .before .before .before .before .before .before .before .before in
-    let job = now (l .before .before .args .job) in
+    let job = now (l .before .before .before .args .job) in
     keeping-more job (l .loop .at) (l .loop .k) (l .loop .inv) (c .before .before .before .before .before .before .line-end .ensures) (omega arith) (omega arith)
-    (sym (c .before .before .before .read-line .ensures) ∙ c .before .identity .given .1)
+    (sym (c .before .before .before .read-line .ensures) ∙ c .before .page .given .1)
 
 returns-4 : tie.Need-returns-4 Inv-loop μ-loop
 returns-4 c =
     let l = c .before in
-    keeping-all (now (l .before .before .args .job)) (l .loop .at) (l .loop .k) (l .loop .inv) (c .loop-test .left)
+    keeping-all (now (l .before .before .before .args .job)) (l .loop .at) (l .loop .k) (l .loop .inv) (c .loop-test .left)
 
 pub read-lines-spec : {M : Type 1} → statement M
 read-lines-spec =
@@ -135,6 +120,7 @@ read-lines-spec =
     (tie.spec
     Inv-loop
     μ-loop
+    no-pages-requires
     loop-holds
     refused-requires
     returns
@@ -150,15 +136,9 @@ read-lines-spec =
     add-refused-2
     refused-requires-3
     returns-3
-    enum-known-identity
-    mul-identities
-    array-write-identities
-    array-write-kinds
-    add-starts
-    mul-starts
-    array-write-starts
-    mul-counts
-    array-write-counts
+    enum-known-page
+    mul-pages
+    array-set-from-pages
     add-at
     add-k
     loop-less

@@ -1,6 +1,7 @@
 -- `sender::lay_out` meets its contract. The invariant: the pages passed are laid out. Assumes nothing.
-use Prim.Native.Nat.{ℕ, _+_, _≤_, _-_}
+use Prim.Native.Nat.{ℕ, _+_, _≤_, _-_, _/_}
 use mathlib.Core.Path.{_≡_, refl, sym, ap, _∙_}
+use mathlib.Core.List.{List}
 use native.Mathlib.Omega.{arith}
 use lib.ListN.{length, getD, take, drop, length-drop}
 use denote.Ref.{now}
@@ -10,10 +11,10 @@ use Rattle.base.proofs.ListLaws.{to-end}
 use Rattle.codeword.specs.Code.{codeword, addressBits, messageBits}
 use Rattle.text.specs.Coding.{groupOf, groupsOf}
 use Rattle.text.specs.declared.Coding.{Coding}
-use Rattle.transmission.specs.Sending.{Sending, sendingsOf}
+use Rattle.job.specs.Pages.{noPage, digitsIn}
+use Rattle.transmission.specs.Sending.{Sending, sendingsOf, sendingAt}
 use Rattle.transmission.proofs.Sendings.{sendings-count, accepted-sendings}
-use Rattle.transmission.proofs.Prepared.{few-characters, groups-are}
-use Rattle.transmission.proofs.Planned.{page-sending}
+use Rattle.transmission.proofs.Planned.{page-sending, few-characters, groups-are}
 use Rattle.sender.proofs.Laid.{Laid, laid-none, message-is, laid-at, laid-room, laid-fits, laid-more, laid-pages, laid-words}
 use borrow.Author.Needs.{needs}
 use Rattle.sender.proofs.lay_out.Statement.{statement}
@@ -25,34 +26,34 @@ Inv-loop job n words₀ read addresses₀ starts₀ lengths₀ frames₀ at₀ i
 abbrev μ-loop : tie.MeasureT-loop
 μ-loop job n words₀ read addresses₀ starts₀ lengths₀ frames₀ at₀ i₀ words addresses starts lengths frames at i = n - i
 
+-- the number of groups of page i
+counted : (c : tie.After-groups Inv-loop μ-loop) → c .groups .result ≡ length (sendingAt (sendingsOf (now (c .before .before .before .before .before .before .before .before .args .job))) (c .before .before .before .before .before .loop .i) .groups)
+counted c =
+    let b = c .before .before .before .before .before .before .before .before in
+    let i = c .before .before .before .before .before .loop .i in
+    c .groups .ensures
+    ∙ ap (λ (z : Coding). groupsOf z (getD (b .args .t2 .pages) i noPage .length / 2)) (c .before .before .coding .ensures)
+    ∙ groups-are (now (b .args .job)) (b .args .n) (b .pre .0 .1) (b .pre .0 .0) i (omega arith)
+
 loop-holds : tie.Need-loop-holds Inv-loop μ-loop
 loop-holds c =
     let b = c .before .before in
     let s = now (b .args .job) in
     (omega arith, omega (arith, accepted-sendings s (b .args .n) (b .pre .0 .1) .most, sendings-count s (b .args .n) (b .pre .0 .1)), omega arith, b .pre .1, laid-none (sendingsOf s) (now (b .args .words)))
 
-mul-identity : tie.Need-mul-identity Inv-loop μ-loop
-mul-identity c = search needs
+mul-page : tie.Need-mul-page Inv-loop μ-loop
+mul-page c = search needs
 
-element-copy-out-identity : tie.Need-element-copy-out-identity Inv-loop μ-loop
-element-copy-out-identity c = search needs
-
-element-copy-out-kind : tie.Need-element-copy-out-kind Inv-loop μ-loop
-element-copy-out-kind c = search needs
-
-mul-count : tie.Need-mul-count Inv-loop μ-loop
-mul-count c = search needs
-
-element-copy-out-count : tie.Need-element-copy-out-count Inv-loop μ-loop
-element-copy-out-count c = search needs
+element-copy-out-page : tie.Need-element-copy-out-page Inv-loop μ-loop
+element-copy-out-page c = search needs
 
 coding-requires : tie.Need-coding-requires Inv-loop μ-loop
 coding-requires c κs = search needs
 
 cast-groups : tie.Need-cast-groups Inv-loop μ-loop
 cast-groups c =
-    let b = c .before .before .before .before .before .before .before .before in
-    record { fits = omega (arith, few-characters (now (b .args .job)) (b .args .n) (b .pre .0 .1) (b .args .t2) (b .pre .0 .0) (c .before .before .before .before .before .loop .i)) }
+    let b = c .before .before .before .before .before .before .before in
+    record { fits = omega (arith, few-characters (now (b .args .job)) (b .args .n) (b .pre .0 .1) (b .pre .0 .0) (c .before .before .before .before .loop .i) (omega arith)) }
 
 groups-requires : tie.Need-groups-requires Inv-loop μ-loop
 groups-requires c κs = search needs
@@ -83,12 +84,12 @@ array-write-starts c = search needs
 
 cast-lengths : tie.Need-cast-lengths Inv-loop μ-loop
 cast-lengths c =
-    let b = c .before .before .before .before .before .before .before .before .before .before .before .before in
-    let l = c .before .before .before .before .before .before .before .before .before .loop in
+    let b = c .before .before .before .before .before .before .before .before .before .before .before in
+    let l = c .before .before .before .before .before .before .before .before .loop in
     let s = now (b .args .job) in
     let ok = b .pre .0 .1 in
-    let h = c .before .before .before .before .before .before .before .before .loop-test .taken in
-    let e = c .before .before .before .groups .ensures ∙ ap (λ (z : Coding). groupsOf z (getD (b .args .t2 .counts) (l .i) 0)) (c .before .before .before .before .coding .ensures) ∙ groups-are s (b .args .n) ok (b .pre .0 .0) (l .i) h in
+    let h = c .before .before .before .before .before .before .before .loop-test .taken in
+    let e = counted (c .before .before .before) in
     let all = sendings-count s (b .args .n) ok in
     let a = accepted-sendings s (b .args .n) ok in
     record { fits = omega (arith, a .each (l .i) (omega arith) .brief) }
@@ -105,23 +106,17 @@ cast-frames c = search needs
 array-write-frames : tie.Need-array-write-frames Inv-loop μ-loop
 array-write-frames c = search needs
 
-mul-page-text : tie.Need-mul-page-text Inv-loop μ-loop
-mul-page-text c = search needs
-
-element-copy-out-page-text : tie.Need-element-copy-out-page-text Inv-loop μ-loop
-element-copy-out-page-text c = search needs
-
 page-text-requires : tie.Need-page-text-requires Inv-loop μ-loop
 page-text-requires c κs = search needs
 
 cast-write-message : tie.Need-cast-write-message Inv-loop μ-loop
 cast-write-message c =
-    let b = c .before .before .before .before .before .before .before .before .before .before .before .before .before .before in
-    let l = c .before .before .before .before .before .before .before .before .before .before .before .loop in
+    let b = c .before .before .before .before .before .before .before .before .before .before .before .before in
+    let l = c .before .before .before .before .before .before .before .before .before .loop in
     let s = now (b .args .job) in
     let ok = b .pre .0 .1 in
-    let h = c .before .before .before .before .before .before .before .before .before .before .loop-test .taken in
-    let e = c .before .before .before .before .before .groups .ensures ∙ ap (λ (z : Coding). groupsOf z (getD (b .args .t2 .counts) (l .i) 0)) (c .before .before .before .before .before .before .coding .ensures) ∙ groups-are s (b .args .n) ok (b .pre .0 .0) (l .i) h in
+    let h = c .before .before .before .before .before .before .before .before .loop-test .taken in
+    let e = counted (c .before .before .before .before) in
     let all = sendings-count s (b .args .n) ok in
     let a = accepted-sendings s (b .args .n) ok in
     record { fits = omega (arith, a .each (l .i) (omega arith) .brief) }
@@ -140,12 +135,12 @@ part-write-message-end c = search needs
 
 write-message-requires : tie.Need-write-message-requires Inv-loop μ-loop
 write-message-requires c κs =
-    let b = c .before .before .before .before .before .before .before .before .before .before .before .before .before .before .before in
-    let l = c .before .before .before .before .before .before .before .before .before .before .before .before .loop in
+    let b = c .before .before .before .before .before .before .before .before .before .before .before .before .before in
+    let l = c .before .before .before .before .before .before .before .before .before .before .loop in
     let s = now (b .args .job) in
     let ok = b .pre .0 .1 in
-    let h = c .before .before .before .before .before .before .before .before .before .before .before .loop-test .taken in
-    let e = c .before .before .before .before .before .before .groups .ensures ∙ ap (λ (z : Coding). groupsOf z (getD (b .args .t2 .counts) (l .i) 0)) (c .before .before .before .before .before .before .before .coding .ensures) ∙ groups-are s (b .args .n) ok (b .pre .0 .0) (l .i) h in
+    let h = c .before .before .before .before .before .before .before .before .before .loop-test .taken in
+    let e = counted (c .before .before .before .before .before) in
     let all = sendings-count s (b .args .n) ok in
     let a = accepted-sendings s (b .args .n) ok in
     let m = laid-fits (sendingsOf s) a (now (b .args .words)) (b .pre .1) (l .i) (l .at) (l .inv .4) (omega arith) in
@@ -153,12 +148,12 @@ write-message-requires c κs =
 
 add-at : tie.Need-add-at Inv-loop μ-loop
 add-at c =
-    let b = c .before .before .before .before .before .before .before .before .before .before .before .before .before .before .before .before .before .before in
-    let l = c .before .before .before .before .before .before .before .before .before .before .before .before .before .before .before .loop in
+    let b = c .before .before .before .before .before .before .before .before .before .before .before .before .before .before .before .before in
+    let l = c .before .before .before .before .before .before .before .before .before .before .before .before .before .loop in
     let s = now (b .args .job) in
     let ok = b .pre .0 .1 in
-    let h = c .before .before .before .before .before .before .before .before .before .before .before .before .before .before .loop-test .taken in
-    let e = c .before .before .before .before .before .before .before .before .before .groups .ensures ∙ ap (λ (z : Coding). groupsOf z (getD (b .args .t2 .counts) (l .i) 0)) (c .before .before .before .before .before .before .before .before .before .before .coding .ensures) ∙ groups-are s (b .args .n) ok (b .pre .0 .0) (l .i) h in
+    let h = c .before .before .before .before .before .before .before .before .before .before .before .before .loop-test .taken in
+    let e = counted (c .before .before .before .before .before .before .before .before) in
     let all = sendings-count s (b .args .n) ok in
     let a = accepted-sendings s (b .args .n) ok in
     let m = laid-fits (sendingsOf s) a (now (b .args .words)) (b .pre .1) (l .i) (l .at) (l .inv .4) (omega arith) in
@@ -172,28 +167,30 @@ loop-less c = search needs
 
 loop-again : tie.Need-loop-again Inv-loop μ-loop
 loop-again c =
-    let b = c .before .before .before .before .before .before .before .before .before .before .before .before .before .before .before .before .before .before in
-    let l = c .before .before .before .before .before .before .before .before .before .before .before .before .before .before .before .loop in
+    let b = c .before .before .before .before .before .before .before .before .before .before .before .before .before .before .before .before in
+    let l = c .before .before .before .before .before .before .before .before .before .before .before .before .before .loop in
     let s = now (b .args .job) in
     let ok = b .pre .0 .1 in
-    let h = c .before .before .before .before .before .before .before .before .before .before .before .before .before .before .loop-test .taken in
-    let e = c .before .before .before .before .before .before .before .before .before .groups .ensures ∙ ap (λ (z : Coding). groupsOf z (getD (b .args .t2 .counts) (l .i) 0)) (c .before .before .before .before .before .before .before .before .before .before .coding .ensures) ∙ groups-are s (b .args .n) ok (b .pre .0 .0) (l .i) h in
+    let h = c .before .before .before .before .before .before .before .before .before .before .before .before .loop-test .taken in
+    let e = counted (c .before .before .before .before .before .before .before .before) in
     let all = sendings-count s (b .args .n) ok in
     let a = accepted-sendings s (b .args .n) ok in
     let old = now (b .args .words) in
-    let identity = getD (b .args .t2 .identities) (l .i) 0 in
-    let kind = getD (b .args .t2 .kinds) (l .i) 0 in
-    let bytes = bytesOf (now (c .before .before .before .before .page-text .result)) in
-    let groups = c .before .before .before .before .before .before .before .before .before .groups .result in
-    let x = page-sending s (b .args .n) ok (b .args .t2) (b .pre .0 .0) (l .i) h (c .before .before .before .before .page-text .ensures) in
+    let page = getD (b .args .t2 .pages) (l .i) noPage in
+    let identity = page .identity in
+    let kind = page .kind in
+    let digits = digitsIn s page in
+    let groups = c .before .before .before .before .before .before .before .before .groups .result in
+    let x = page-sending s (b .args .n) ok (b .pre .0 .0) (l .i) h in
     let rest = take (length (l .words) - l .at) (drop (l .at) (l .words)) in
     let part =
     c .before .before .write-message .ensures
-    ∙ ap (λ (z : Coding). over rest (tab (λ g. codeword (messageBits (groupOf z bytes g))) groups)) (c .before .before .before .before .before .before .before .before .before .before .coding .ensures)
-    ∙ ap (over rest) (message-is identity kind bytes groups (e ∙ sym (ap (λ (y : Sending). length (y .groups)) x))) in
+    ∙ ap (λ (t : List ℕ). over rest (tab (λ g. codeword (messageBits (groupOf (c .before .before .before .before .before .before .before .before .before .before .coding .result) (bytesOf t) g))) groups)) (c .before .before .before .before .page-text .ensures)
+    ∙ ap (λ (z : Coding). over rest (tab (λ g. codeword (messageBits (groupOf z (bytesOf digits) g))) groups)) (c .before .before .before .before .before .before .before .before .before .before .coding .ensures)
+    ∙ ap (over rest) (message-is identity kind digits groups (e ∙ sym (ap (λ (y : Sending). length (y .groups)) x))) in
     let next =
     laid-more (sendingsOf s) a old (b .pre .1) (l .i) (l .at) (l .inv .4) (omega arith) x
-    (c .before .before .before .before .before .before .word .ensures ∙ c .before .before .before .before .before .before .before .address .ensures ∙ ap (λ (f : ℕ). codeword (addressBits identity f)) (c .before .before .before .before .before .before .before .before .function .ensures)) e refl part in (
+    (c .before .before .before .before .before .word .ensures ∙ c .before .before .before .before .before .before .address .ensures ∙ ap (λ (f : ℕ). codeword (addressBits identity f)) (c .before .before .before .before .before .before .before .function .ensures)) e refl part in (
       omega arith,
       l .inv .1,
       laid-at (sendingsOf s) a old (b .pre .1) (l .i + 1) (l .at + groups) next,
@@ -201,8 +198,8 @@ loop-again c =
       next,
     )
 
-cast-t46 : tie.Need-cast-t46 Inv-loop μ-loop
-cast-t46 c = search needs
+cast-count : tie.Need-cast-count Inv-loop μ-loop
+cast-count c = search needs
 
 same-length : tie.Need-same-length Inv-loop μ-loop
 same-length c = let b = c .before .before .before .before in c .before .loop .inv .3 ∙ sym (b .pre .1)
@@ -228,11 +225,8 @@ lay-out-spec =
     Inv-loop
     μ-loop
     loop-holds
-    mul-identity
-    element-copy-out-identity
-    element-copy-out-kind
-    mul-count
-    element-copy-out-count
+    mul-page
+    element-copy-out-page
     coding-requires
     cast-groups
     groups-requires
@@ -249,8 +243,6 @@ lay-out-spec =
     array-write-lengths
     cast-frames
     array-write-frames
-    mul-page-text
-    element-copy-out-page-text
     page-text-requires
     cast-write-message
     mul-write-message
@@ -262,6 +254,6 @@ lay-out-spec =
     add-i
     loop-less
     loop-again
-    cast-t46
+    cast-count
     same-length
     returns)

@@ -42,7 +42,7 @@ returns c =
     let bytes = bytesOf (a .text .now) in
     done .write-sending .ensures
     ∙ ap (λ (x : Sending). withSending x (a .slot) (a .words .now))
-    (packed-sending (a .identity) (a .kind) bytes (length (a .groups .now)) (start .pre .0) (told .function .ensures)
+    (packed-sending (a .identity) (a .kind) (a .text .now) (length (a .groups .now)) (start .pre .0) (told .function .ensures)
     (packed .write-groups .ensures ∙ ap (λ (x : Coding). tab (groupOf x bytes) (length (a .groups .now))) (coded .coding .ensures)))
 
 pub write-packed-spec : {M : Type 1} → statement M

@@ -5,13 +5,13 @@ use native.Mathlib.Omega.{arith}
 use borrow.Author.Needs.{needs}
 use denote.Ref.{now}
 use lib.ListN.{length, getD}
-use Rattle.base.specs.Hex.{bytesOf}
 use Rattle.base.proofs.ListLaws.{tab-length}
+use Rattle.job.specs.Pages.{noPage}
 use Rattle.job.proofs.Accepted.{accepted-job}
-use Rattle.transmission.specs.Sending.{sendingFrom, sendingsOf, sendingAt}
+use Rattle.transmission.specs.Sending.{sendingOf, sendingsOf, sendingAt}
 use Rattle.transmission.specs.Writing.{blankAt, withSendings}
 use Rattle.transmission.proofs.Sendings.{sendings-count, accepted-sendings, sendings-placed}
-use Rattle.transmission.proofs.Planned.{page-sending, brief, counted, low, fits, page-more}
+use Rattle.transmission.proofs.Planned.{page-sending, in-groups, brief, counted, low, fits, page-more}
 use Rattle.transmission.proofs.Written.{with-length, written}
 use Rattle.transmission.proofs.write_pages.Statement.{statement}
 use Rattle.transmission.proofs.write_pages.Tie as tie
@@ -23,43 +23,28 @@ abbrev μ-loop : tie.MeasureT-loop
 μ-loop job n groups places words₀ pages i₀ words i = n - i
 
 -- the words keep their number
-room : (at : tie.At-loop Inv-loop μ-loop) → length (at .loop .words) ≡ length (at .before .before .before .before .before .before .before .args .words .now)
+room : (at : tie.At-loop Inv-loop μ-loop) → length (at .loop .words) ≡ length (at .before .before .before .before .before .before .before .before .args .words .now)
 room at =
-    let from = at .before .before .before .before .before .before .before in
+    let from = at .before .before .before .before .before .before .before .before in
     ap length (at .loop .inv .2)
     ∙ with-length (sendingsOf (from .args .job .now)) _ (at .loop .i)
     ∙ ap length (at .before .before .before .write-blank .ensures)
     ∙ tab-length blankAt (length (from .args .words .now))
 
 -- page i is sent as sending i
-sent-as : (c : tie.After-page-text Inv-loop μ-loop)
-    → sendingFrom (getD (c .before .before .before .before .before .before .before .before .before .before .before .args .t2 .identities) (c .before .before .before .before .loop .i) 0) (getD (c .before .before .before .before .before .before .before .before .before .before .before .args .t2 .kinds) (c .before .before .before .before .loop .i) 0) (bytesOf (now (c .page-text .result)))
-    ≡ sendingAt (sendingsOf (c .before .before .before .before .before .before .before .before .before .before .before .args .job .now)) (c .before .before .before .before .loop .i)
+sent-as : (c : tie.In-loop Inv-loop μ-loop)
+    → sendingOf (c .before .before .before .before .before .before .before .before .before .args .job .now) (getD (c .before .before .before .before .before .before .before .before .before .args .t2 .pages) (c .before .loop .i) noPage)
+    ≡ sendingAt (sendingsOf (c .before .before .before .before .before .before .before .before .before .args .job .now)) (c .before .loop .i)
 sent-as c =
-    let from = c .before .before .before .before .before .before .before .before .before .before .before in
-    page-sending (from .args .job .now) (from .args .n) (from .pre .1 .0) (from .args .t2) (from .pre .0) (c .before .before .before .before .loop .i) (omega arith) (c .page-text .ensures)
+    let from = c .before .before .before .before .before .before .before .before .before in
+    page-sending (from .args .job .now) (from .args .n) (from .pre .1 .0) (from .pre .0) (c .before .loop .i) (omega arith)
 
 write-blank-requires : tie.Need-write-blank-requires Inv-loop μ-loop
 write-blank-requires c κs = search needs
 
 loop-holds : tie.Need-loop-holds Inv-loop μ-loop
 unfolding withSendings
-loop-holds c = (accepted-job (c .before .before .before .before .before .before .args .job .now) (c .before .before .before .before .before .before .args .n) (c .before .before .before .before .before .before .pre .1 .0) .most, omega arith, refl)
-
-mul-page-text : tie.Need-mul-page-text Inv-loop μ-loop
-mul-page-text c = search needs
-
-element-copy-out-page-text : tie.Need-element-copy-out-page-text Inv-loop μ-loop
-element-copy-out-page-text c = search needs
-
-mul-page-text-2 : tie.Need-mul-page-text-2 Inv-loop μ-loop
-mul-page-text-2 c = search needs
-
-element-copy-out-page-text-2 : tie.Need-element-copy-out-page-text-2 Inv-loop μ-loop
-element-copy-out-page-text-2 c = search needs
-
-page-text-requires : tie.Need-page-text-requires Inv-loop μ-loop
-page-text-requires c κs = search needs
+loop-holds c = (accepted-job (c .before .before .before .before .before .before .before .args .job .now) (c .before .before .before .before .before .before .before .args .n) (c .before .before .before .before .before .before .before .pre .1 .0) .most, omega arith, refl)
 
 mul-write-page : tie.Need-mul-write-page Inv-loop μ-loop
 mul-write-page c = search needs
@@ -67,32 +52,32 @@ mul-write-page c = search needs
 element-copy-out-write-page : tie.Need-element-copy-out-write-page Inv-loop μ-loop
 element-copy-out-write-page c = search needs
 
-element-copy-out-write-page-2 : tie.Need-element-copy-out-write-page-2 Inv-loop μ-loop
-element-copy-out-write-page-2 c = search needs
-
 mul-write-page-2 : tie.Need-mul-write-page-2 Inv-loop μ-loop
 mul-write-page-2 c = search needs
 
-element-copy-out-write-page-3 : tie.Need-element-copy-out-write-page-3 Inv-loop μ-loop
-element-copy-out-write-page-3 c = search needs
+shared-slice-read-write-page : tie.Need-shared-slice-read-write-page Inv-loop μ-loop
+shared-slice-read-write-page c =
+    let at = c .before .before .before in
+    let from = at .before .before .before .before .before .before .before .before in
+    in-groups (from .args .job .now) (from .args .n) (from .pre .1 .0) (from .pre .1 .1) (at .loop .i) (omega arith)
+
+element-copy-out-write-page-2 : tie.Need-element-copy-out-write-page-2 Inv-loop μ-loop
+element-copy-out-write-page-2 c = search needs
 
 mul-write-page-3 : tie.Need-mul-write-page-3 Inv-loop μ-loop
 mul-write-page-3 c = search needs
 
-element-copy-out-write-page-4 : tie.Need-element-copy-out-write-page-4 Inv-loop μ-loop
-element-copy-out-write-page-4 c = search needs
-
 write-page-requires : tie.Need-write-page-requires Inv-loop μ-loop
 write-page-requires c κs =
-    let at = c .before .before .before .before .before .before .before .before .before in
-    let from = at .before .before .before .before .before .before .before in
+    let at = c .before .before .before .before .before in
+    let from = at .before .before .before .before .before .before .before .before in
     let s = from .args .job .now in
     let n = from .args .n in
     let i = at .loop .i in
     let h : i < n = omega arith in
     let ok = from .pre .1 .0 in
     let plan = from .pre .1 .1 in (
-      counted s n ok plan i h (sent-as (c .before .before .before .before .before)),
+      counted s n ok plan i h (sent-as (c .before .before .before .before)),
       ((brief s n ok plan i h, low s n ok plan i h), omega (arith, room at, fits s n ok plan i h)),
     )
 
@@ -104,12 +89,12 @@ loop-less c = search needs
 
 loop-again : tie.Need-loop-again Inv-loop μ-loop
 loop-again c =
-    let at = c .before .before .before .before .before .before .before .before .before .before .before .before in
-    let from = at .before .before .before .before .before .before .before in
-    let h : at .loop .i < from .args .n = c .before .before .before .before .before .before .before .before .before .before .before .loop-test .taken in (
+    let at = c .before .before .before .before .before .before .before .before in
+    let from = at .before .before .before .before .before .before .before .before in
+    let h : at .loop .i < from .args .n = c .before .before .before .before .before .before .before .loop-test .taken in (
       at .loop .inv .0,
       omega (arith, h),
-      page-more (from .args .job .now) (from .args .n) (from .pre .1 .0) (from .pre .1 .1) (at .loop .i) h _ (sent-as (c .before .before .before .before .before .before .before .before)) (at .loop .inv .2) (c .before .before .write-page .ensures),
+      page-more (from .args .job .now) (from .args .n) (from .pre .1 .0) (from .pre .1 .1) (at .loop .i) h _ (sent-as (c .before .before .before .before .before .before .before)) (at .loop .inv .2) (c .before .before .write-page .ensures),
     )
 
 same-length : tie.Need-same-length Inv-loop μ-loop
@@ -118,7 +103,7 @@ same-length c = room (c .before)
 returns : tie.Need-returns Inv-loop μ-loop
 returns c =
     let at = c .before in
-    let from = at .before .before .before .before .before .before .before in
+    let from = at .before .before .before .before .before .before .before .before in
     let s = from .args .job .now in
     let a = accepted-sendings s (from .args .n) (from .pre .1 .0) in
     let e : at .loop .i ≡ length (sendingsOf s) = omega (arith, sendings-count s (from .args .n) (from .pre .1 .0)) in
@@ -132,18 +117,12 @@ write-pages-spec =
     μ-loop
     write-blank-requires
     loop-holds
-    mul-page-text
-    element-copy-out-page-text
-    mul-page-text-2
-    element-copy-out-page-text-2
-    page-text-requires
     mul-write-page
     element-copy-out-write-page
-    element-copy-out-write-page-2
     mul-write-page-2
-    element-copy-out-write-page-3
+    shared-slice-read-write-page
     mul-write-page-3
-    element-copy-out-write-page-4
+    element-copy-out-write-page-2
     write-page-requires
     add-i
     loop-less
