@@ -20,9 +20,9 @@
 #include <stddef.h>
 #include <stdint.h>
 
-/* 2.0.0, as 10000 * first + 100 * second + third. The first goes up where a caller has to change or only to be compiled again, as when
+/* 2.1.0, as 10000 * first + 100 * second + third. The first goes up where a caller has to change or only to be compiled again, as when
  * a struct grows; the second where something is added. The archive and the header of one commit belong together. */
-#define SPUGGENOR_VERSION 20000
+#define SPUGGENOR_VERSION 20100
 
 #ifdef __cplusplus
 extern "C" {
@@ -46,7 +46,7 @@ extern "C" {
 #define CARD_MESSAGE_WORDS 4032     /* message codewords of a job */
 
 /* Why work is declined, and the place that comes with the number. A job's own numbers, 9 the last of them, stand here first, a
- * line's in the order of their rank. The first faulty line decides, and in it the first of 1, 2, 3, 4, then 12, 13 or 14, then 6, 7;
+ * line's in the order of their rank. The first faulty line decides, and in it the first of 1, 2, 3, 4, 25, then 12, 13 or 14, then 6, 7;
  * but a 49th line is 8 whatever it holds; then 9, then 10. Of a listing the first line that gives 21 or 23, then the first 22, then
  * 10; of words 21, 23, 22, 10. (The programs have one number more, 24.)
  *
@@ -55,10 +55,11 @@ extern "C" {
 #define CARD_REFUSED_LINE_FORM 1            /* line: it is not written as a page line */
 #define CARD_REFUSED_IDENTITY_TOO_LARGE 2   /* line: over 1FFFFF */
 #define CARD_REFUSED_IDENTITY_RESERVED 3    /* line: 1EA270 to 1EA277 or 1F3480 to 1F3487 */
-#define CARD_REFUSED_KIND 4                 /* line: none of 0 to 5 */
+#define CARD_REFUSED_KIND 4                 /* line: none of 0 to 7 */
+#define CARD_REFUSED_PARTIAL_GROUP 25       /* line: kind 6 or 7 has digits that make no whole groups of five */
 #define CARD_REFUSED_TONE_WITH_TEXT 12      /* line: kind 0 to 3 has a text */
-#define CARD_REFUSED_NO_TEXT 13             /* line: kind 4 or 5 has none */
-#define CARD_REFUSED_TEXT_TOO_LONG 14       /* line: over 60 characters for kind 4, over 240 for kind 5 */
+#define CARD_REFUSED_NO_TEXT 13             /* line: kind 4 to 7 has none */
+#define CARD_REFUSED_TEXT_TOO_LONG 14       /* line: over 60 characters for kind 4, over 240 for kind 5, over 84 groups for kinds 6 and 7 */
 #define CARD_REFUSED_CHARACTER 6            /* line, and a position: a character that the kind does not have */
 #define CARD_REFUSED_SPACE_AT_END 7         /* line: a numeric text ends in a space */
 #define CARD_REFUSED_TOO_MANY_PAGES 8       /* 49: a 49th line */

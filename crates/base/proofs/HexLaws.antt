@@ -9,10 +9,11 @@ use native.Mathlib.Nat.{div-div-eq-div-mul, div-one, pow-suc, pow-succ', pow-le-
 use native.Mathlib.Omega.{arith}
 use lib.Dec.{leb, ltb, eqb}
 use lib.ListN.{length, getD, take, drop, drop-of-length-le}
-use lib.Seq.{drop-cons}
+use lib.Seq.{drop-cons, take-nil}
 use borrow.Author.Tests.{leb-true, leb-false, le-leb, lt-leb, lt-ltb, eq-eqb, ne-eqb, eqb-true}
 use Rattle.base.specs.Hex.{between, isHex, hexOf, digitValue, digitOf, hexNumber, hexWord, digitsOf, bytesOf, pairsOf}
 use Rattle.base.specs.Leading.{leading}
+use Rattle.base.specs.Lists.{Begins}
 use Rattle.base.specs.declared.HexWord.the-variants.{Number, NotHex}
 use Rattle.base.proofs.Bools.{either, and-true, and-both, true-false}
 use Rattle.base.proofs.LeadingLaws.{leading-cons}
@@ -231,6 +232,21 @@ bytes-at (x ∷ y ∷ s) (suc k) d h =
     let e₁ : 2 * suc k + 1 ≡ suc (suc (2 * k + 1)) = omega arith in
     let e₀ : 2 * suc k ≡ suc (suc (2 * k)) = omega arith in
     rw (e₁, e₀) (bytes-at s k d (omega arith))
+
+pub pairs-length : (s : List ℕ) → length (pairsOf s) ≡ 2 * length s
+unfolding pairsOf
+pairs-length [] = refl
+pairs-length (b ∷ s) = omega (arith, pairs-length s)
+
+-- the pairs of the first bytes begin those of all
+pairs-front : (k : ℕ) (s : List ℕ) → pairsOf (take k s) ≡ take (2 * k) (pairsOf s)
+unfolding pairsOf
+pairs-front zero s = refl
+pairs-front (suc k) [] = sym (take-nil (2 * suc k))
+pairs-front (suc k) (b ∷ s) = let e : 2 * suc k ≡ suc (suc (2 * k)) = omega arith in rw (e, pairs-front k s)
+
+pub pairs-begin : (t s : List ℕ) → Begins t s → Begins (pairsOf t) (pairsOf s)
+pairs-begin t s e = ap pairsOf e ∙ pairs-front (length t) s ∙ ap (λ (n : ℕ). take n (pairsOf s)) (sym (pairs-length t))
 
 -- pairs of digits are written back from their bytes
 pub pairs-back : (ps : List ℕ) → length ps % 2 ≡ 0 → length ps ≤ leading isHex ps → pairsOf (bytesOf ps) ≡ ps

@@ -1,47 +1,58 @@
 -- How many pages an accepted job has, and how many message codewords each of them. Assumes nothing.
-use mathlib.Core.Path.{_≡_, ap, _∙_}
+use mathlib.Core.Path.{_≡_, sym, ap, _∙_}
 use mathlib.Core.List.{List}
 use mathlib.Core.Logic.{⊎-elim}
 use Prim.Native.Nat.{ℕ, _≤_, _<_}
 use native.Mathlib.Omega.{arith}
 use lib.ListN.{length}
 use borrow.Author.Tests.{le-leb, lt-leb, ne-eqb, eq-eqb}
-use Rattle.base.specs.Hex.{bytesOf}
+use Rattle.base.specs.Lines.{split, lineAt}
+use Rattle.base.proofs.HexLaws.{bytes-length}
 use Rattle.base.proofs.SearchLaws.{le-or-lt}
 use Rattle.text.specs.Coding.{groupsOf}
-use Rattle.text.proofs.GroupLaws.{groups-length}
-use Rattle.job.specs.Line.{codingOf}
+use Rattle.job.specs.Line.{codingOf, kindOf, textDigits, textOf}
+use Rattle.job.specs.Message.{countFrom}
 use Rattle.job.specs.Pages.{pageAt, digitsAt}
 use Rattle.job.specs.Job.{jobOf}
+use Rattle.job.specs.Accepted.{Sound}
 use Rattle.job.specs.declared.JobAnswer.the-variants.{Accepted}
 use Rattle.job.proofs.Accepted.{accepted-job}
+use Rattle.job.proofs.Message.{is-data, no-data, from-count, count-data, count-text}
 use Rattle.transmission.specs.Sending.{Sending, sendingsOf, sendingAt, placementOf}
 use Rattle.transmission.proofs.Sendings.{sending-at, pages-are, sendings-count}
 use Rattle.guarantees.specs.Demand3.{page, messageCount, count}
 
--- the groups of a text are as many as document 01 says, where a tone has none
-count-of : (kind c : ℕ) → kind ≤ 5 → (kind ≤ 3 → c ≡ 0) → groupsOf (codingOf kind) c ≡ messageCount kind c
+-- the groups of a sound line's text are as many as document 01 says
+count-of : (l : List ℕ) → Sound l → countFrom (kindOf l) (length (textDigits l)) ≡ messageCount (kindOf l) (textDigits l)
 unfolding messageCount codingOf
-count-of kind c most tone = ⊎-elim none some (le-or-lt kind 3)
+count-of l q = ⊎-elim coded grouped (le-or-lt (kindOf l) 5)
   where
-    none : kind ≤ 3 → groupsOf (codingOf kind) c ≡ messageCount kind c
-    none h = rw (le-leb kind 3 h, ne-eqb kind 4 (λ e. omega arith), tone h)
+    coded : kindOf l ≤ 5 → countFrom (kindOf l) (length (textDigits l)) ≡ messageCount (kindOf l) (textDigits l)
+    coded h =
+        let kind = kindOf l in
+        let size : countFrom kind (length (textDigits l)) ≡ groupsOf (codingOf kind) (length (textOf l)) =
+        count-text kind (length (textDigits l)) (no-data kind h) ∙ ap (groupsOf (codingOf kind)) (sym (bytes-length (textDigits l))) in
+        size
+        ∙ ⊎-elim
+        (λ (t : kind ≤ 3). rw (le-leb kind 3 t, ne-eqb kind 4 (λ e. omega arith), q .text h .tone t))
+        (λ (t : 3 < kind). ⊎-elim
+        (λ (u : kind ≤ 4). rw (lt-leb kind 3 t, eq-eqb kind 4 (omega arith)) (omega arith))
+        (λ (u : 4 < kind). rw (lt-leb kind 3 t, ne-eqb kind 4 (λ e. omega arith), eq-eqb kind 5 (omega arith)) (omega arith))
+        (le-or-lt kind 4))
+        (le-or-lt kind 3)
 
-    some : 3 < kind → groupsOf (codingOf kind) c ≡ messageCount kind c
-    some h =
-        ⊎-elim
-        (λ l. rw (lt-leb kind 3 h, eq-eqb kind 4 (omega arith)) (omega arith))
-        (λ l. rw (lt-leb kind 3 h, ne-eqb kind 4 (λ e. omega arith)) (omega arith))
-        (le-or-lt kind 4)
+    grouped : 5 < kindOf l → countFrom (kindOf l) (length (textDigits l)) ≡ messageCount (kindOf l) (textDigits l)
+    grouped h =
+        let kind = kindOf l in
+        count-data kind (length (textDigits l)) (is-data kind h (q .known))
+        ∙ rw (lt-leb kind 3 (omega arith), ne-eqb kind 4 (λ e. omega arith), ne-eqb kind 5 (λ e. omega arith))
 
 module _ (s : List ℕ) (n : ℕ) (ok : jobOf s ≡ Accepted n) where
   pub groups-count : (i : ℕ) → i < n → length (page s i .groups) ≡ count s i
   groups-count i l =
       let a = accepted-job s n ok in
       let p = a .page i l in
-      let q = a .sound i l in
-      groups-length (codingOf (pageAt s i .kind)) (bytesOf (digitsAt s i))
-      ∙ count-of (pageAt s i .kind) (length (bytesOf (digitsAt s i))) (rw (p .kind-is) (q .known)) (rw (p .kind-is, p .digits-are) (q .tone))
+      from-count (pageAt s i .kind) (digitsAt s i) ∙ rw (p .kind-is, p .digits-are) (count-of (lineAt i (split s)) (a .sound i l))
 
   -- the same of its sending
   pub sent-count : (i : ℕ) → i < n → length (sendingAt (sendingsOf s) i .groups) ≡ count s i

@@ -9,12 +9,9 @@ use lib.Dec.{ltb}
 use lib.ListN.{length, take, length-take}
 use lib.Seq.{take-all}
 use borrow.Author.Tests.{lt-ltb, le-ltb, ltb-true, ltb-false}
-use Rattle.base.specs.Hex.{bytesOf, pairsOf}
 use Rattle.base.proofs.Bools.{true-false}
 use Rattle.base.proofs.SearchLaws.{Least, least-is, least-only, le-or-lt}
-use Rattle.text.specs.Heard.{heardText}
-use Rattle.text.proofs.TextFront.{text-front}
-use Rattle.job.specs.Line.{codingOf, functionOf}
+use Rattle.job.specs.Line.{functionOf}
 use Rattle.job.specs.Pages.{pageAt, digitsAt}
 use Rattle.job.specs.Print.{printed}
 use Rattle.job.specs.Job.{jobOf}
@@ -28,7 +25,8 @@ use Rattle.guarantees.specs.Demand2.{pageLine}
 use Rattle.guarantees.specs.Demand3.{page, count}
 use Rattle.guarantees.specs.NothingFalse.{slotCount, addressSlot, slotFlips, slotLost, Undamaged, hasDash, Cut, LineOf}
 use Rattle.guarantees.proofs.Received.{outside, few-flips}
-use Rattle.guarantees.proofs.LineBack.{tone-kind, Shown, shown, HeardBack, page-back, line-back}
+use Rattle.guarantees.proofs.Digits.{digitsFrom, digits-begin, digits-whole, digits-undashed, Shown, shown}
+use Rattle.guarantees.proofs.LineBack.{HeardBack, page-back, line-back}
 use Rattle.guarantees.proofs.Counts.{groups-count, sent-count}
 use Rattle.guarantees.proofs.Dash.{printed-dash}
 
@@ -98,14 +96,14 @@ module _ (s : List ℕ) (n : ℕ) (ok : jobOf s ≡ Accepted n) (most : ℕ) (th
   abbrev groups : List ℕ
   groups = take (m - 1) (page s i .groups)
 
-  back : HeardBack kind (bytesOf (digitsAt s i))
+  back : HeardBack kind (digitsAt s i)
   back = page-back s n ok i l
 
   seen : Shown kind groups
   seen = shown kind groups (back .known) (λ h. let e = back .tone h in omega (arith, length-take (m - 1) (page s i .groups)))
 
   line-is : lineRead s words i
-      ≡ printed (pageAt s i .identity) (kindHeard (functionOf kind) groups) (pairsOf (heardText (codingOf kind) groups)) (ltb m (count s i + 2))
+      ≡ printed (pageAt s i .identity) (kindHeard (functionOf kind) groups) (digitsFrom kind groups) (ltb m (count s i + 2))
   line-is =
       ap
       (λ (x : Sending).
@@ -116,7 +114,7 @@ module _ (s : List ℕ) (n : ℕ) (ok : jobOf s ≡ Accepted n) (most : ℕ) (th
       (ap (λ (ds : List ℕ). printed (pageAt s i .identity) (kindHeard (functionOf kind) groups) ds (ltb m (count s i + 2))) (seen .digits-are))
 
   dashed : hasDash (lineRead s words i) ≡ ltb m (count s i + 2)
-  dashed = ap hasDash line-is ∙ printed-dash _ _ _ _
+  dashed = ap hasDash line-is ∙ printed-dash _ _ (digitsFrom kind groups) _ (digits-undashed kind groups)
 
   own-line : m ≡ count s i + 2 → lineRead s words i ≡ pageLine s i
   own-line e =
@@ -140,14 +138,15 @@ module _ (s : List ℕ) (n : ℕ) (ok : jobOf s ≡ Accepted n) (most : ℕ) (th
             rw next (⊎-elim (λ h. absurd (omega (arith, no-flips (addressSlot s i + m) h))) (λ h. h) (le-or-lt (slotCount s) (addressSlot s i + m)));
         broken = rw next (omega (arith, few-flips (sendingsOf s) most words rec (addressSlot s i + m)));
         kind = kindHeard (functionOf kind) groups;
-        text = heardText (codingOf kind) groups;
+        digits = digitsFrom kind groups;
         line-is =
             line-is
-            ∙ ap (printed (pageAt s i .identity) (kindHeard (functionOf kind) groups) (pairsOf (heardText (codingOf kind) groups)))
+            ∙ ap (printed (pageAt s i .identity) (kindHeard (functionOf kind) groups) (digitsFrom kind groups))
             (lt-ltb m (count s i + 2) short);
-        text-is = refl;
-        begins = rw (back .back) at (text-front (codingOf kind) (m - 1) (page s i .groups));
-        tone = λ e. tone-kind (functionOf kind) groups (front ∙ e);
+        digits-are = sym (seen .digits-are);
+        whole = digits-whole kind groups;
+        begins = rw (back .back) at (digits-begin kind (m - 1) (page s i .groups));
+        tone = λ e. seen .tone-is (front ∙ e);
         same = λ h. seen .kind-is (omega arith);
       }
 

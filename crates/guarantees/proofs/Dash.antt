@@ -8,6 +8,7 @@ use lib.Dec.{eqb, leb}
 use borrow.Author.Tests.{ne-eqb}
 use Rattle.base.specs.Hex.{digitOf, digitsOf, pairsOf}
 use Rattle.base.proofs.Bools.{true-false}
+use Rattle.text.specs.Fives.{fives}
 use Rattle.job.specs.Print.{spaced, ending, printed}
 use Rattle.guarantees.specs.NothingFalse.{hasDash}
 
@@ -33,22 +34,27 @@ unfolding hasDash digitsOf
 in-digits zero n = refl
 in-digits (suc k) n = rw (no-dash (n / 16 ^ k % 16)) (in-digits k n)
 
-in-pairs : (t : List ℕ) → hasDash (pairsOf t) ≡ false
+pub in-pairs : (t : List ℕ) → hasDash (pairsOf t) ≡ false
 unfolding hasDash pairsOf
 in-pairs [] = refl
 in-pairs (b ∷ t) = rw (no-dash (b / 16), no-dash (b % 16)) (in-pairs t)
+
+pub in-fives : (gs : List ℕ) → hasDash (fives gs) ≡ false
+unfolding hasDash fives
+in-fives [] = refl
+in-fives (g ∷ gs) = behind (digitsOf 5 g) (fives gs) (in-digits 5 g) ∙ in-fives gs
 
 in-spaced : (ds : List ℕ) → hasDash ds ≡ false → hasDash (spaced ds) ≡ false
 unfolding hasDash
 in-spaced [] e = refl
 in-spaced (d ∷ ds) e = e
 
-pub printed-dash : (identity kind : ℕ) (text : List ℕ) (cut : Bool) → hasDash (printed identity kind (pairsOf text) cut) ≡ cut
+pub printed-dash : (identity kind : ℕ) (digits : List ℕ) (cut : Bool) → hasDash digits ≡ false → hasDash (printed identity kind digits cut) ≡ cut
 unfolding hasDash printed
-printed-dash identity kind text cut =
+printed-dash identity kind digits cut none =
     behind (digitsOf 6 identity ++ (32 ∷ digitOf (kind % 16) ∷ [])) _
     (behind (digitsOf 6 identity) (32 ∷ digitOf (kind % 16) ∷ []) (in-digits 6 identity) ∙ rw (no-dash (kind % 16)))
-    ∙ behind (spaced (pairsOf text)) _ (in-spaced (pairsOf text) (in-pairs text))
+    ∙ behind (spaced digits) _ (in-spaced digits none)
     ∙ go cut
   where
     go : (x : Bool) → hasDash (ending x) ≡ x

@@ -6,6 +6,7 @@ pub mod Along
 pub mod Received
 pub mod Transport
 pub mod Answered
+pub mod Digits
 pub mod LineBack
 pub mod Reported
 pub mod Counts

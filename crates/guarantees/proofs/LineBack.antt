@@ -1,149 +1,98 @@
--- The texts' half of demand 2: a page that is heard as it was sent has its line of the job. What is shown of any of its groups is what
--- R-9 needs too. Assumes nothing.
-use mathlib.Core.Path.{_≡_, refl, ap, ap₂, _∙_}
-use mathlib.Core.Bool.{Bool, true, false, not, cond, _&&_}
+-- The texts' half of demand 2: a page that is heard as it was sent has its line of the job. What its groups say is what R-9 needs too.
+-- Assumes nothing.
+use mathlib.Core.Path.{_≡_, ap, ap₂, _∙_}
+use mathlib.Core.Bool.{true, false}
 use mathlib.Core.List.{List, [], _∷_, _++_}
 use mathlib.Core.Logic.{⊎-elim}
-use Prim.Native.Nat.{ℕ, suc, _+_, _%_, _≤_, _<_}
-use native.Mathlib.Nat.{eq-or-lt-of-le}
+use Prim.Native.Nat.{ℕ, _/_, _≤_, _<_}
 use native.Mathlib.Omega.{arith}
-use lib.ListN.{length, drop}
-use lib.Seq.{drop-drop}
-use lib.Dec.{eqb}
-use borrow.Author.Tests.{eqb-true, ne-eqb}
-use Rattle.base.specs.Hex.{isHex, bytesOf, pairsOf}
-use Rattle.base.specs.Leading.{leading}
+use lib.ListN.{length}
+use borrow.Author.Tests.{ne-eqb}
+use Rattle.base.specs.Hex.{pairsOf}
 use Rattle.base.specs.Lines.{split, lineAt}
-use Rattle.base.specs.Lists.{tab}
-use Rattle.base.proofs.Bools.{and-true, or-true}
 use Rattle.base.proofs.HexLaws.{pairs-back}
 use Rattle.base.proofs.SearchLaws.{le-or-lt}
-use Rattle.text.specs.Coding.{groupsIn}
-use Rattle.text.specs.Fives.{fives}
-use Rattle.text.specs.Heard.{trimmed, heardText}
+use Rattle.text.specs.Coding.{groupsOf, groupsIn}
+use Rattle.text.specs.Fives.{fives, fivesIn}
+use Rattle.text.specs.Heard.{heardText}
 use Rattle.text.specs.declared.Coding.{Coding}
 use Rattle.text.specs.declared.Coding.the-variants.{Numeric, Alphanumeric}
+use Rattle.text.proofs.FivesBack.{fives-count, fives-back}
 use Rattle.text.proofs.GroupLaws.{groups-length}
 use Rattle.text.proofs.TextBack.{text-back}
-use Rattle.job.specs.Line.{allHex, isPairs, headFormed, tailFormed, wellFormed, codingOf, functionOf, identityOf, kindOf, textPairs, textOf}
+use Rattle.job.specs.Line.{isData, codingOf, functionOf, identityOf, kindOf, textDigits, textOf}
+use Rattle.job.specs.Message.{groupsFrom}
 use Rattle.job.specs.Pages.{pageAt, digitsAt}
 use Rattle.job.specs.Print.{printed}
 use Rattle.job.specs.Job.{jobOf}
 use Rattle.job.specs.declared.JobAnswer.the-variants.{Accepted}
 use Rattle.job.specs.Accepted.{Sound}
 use Rattle.job.proofs.Accepted.{accepted-job}
+use Rattle.job.proofs.Laws.{text-even, text-hex}
+use Rattle.job.proofs.Message.{is-data, no-data, from-data, from-text}
 use Rattle.job.proofs.Printed.{line-printed}
 use Rattle.transmission.specs.Sending.{sendingFrom}
 use Rattle.transmission.proofs.Sendings.{sending-at}
-use Rattle.reader.specs.Lines.{kindHeard, digitsHeard, lineHeard}
+use Rattle.reader.specs.Lines.{kindHeard, lineHeard}
 use Rattle.guarantees.specs.Transport.{hearingOf}
 use Rattle.guarantees.specs.Demand2.{LineBack}
-
--- ---- the digits of a text are those of its line
-
-tail-pairs : (t : List ℕ) → tailFormed t ≡ true → pairsOf (bytesOf (drop 1 t)) ≡ drop 1 t
-unfolding tailFormed isPairs pairsOf
-tail-pairs [] e = refl
-tail-pairs (x ∷ ps) e =
-    ⊎-elim
-    (λ z. let none : suc (length ps) ≡ 0 = eqb-true (suc (length ps)) 0 z in absurd (omega arith))
-    (λ z.
-    let h = and-true (not (eqb (length ps) 0)) (eqb (length ps % 2) 0 && allHex ps) (and-true (eqb x 32) (isPairs ps) z .1) in
-    let i = and-true (eqb (length ps % 2) 0) (allHex ps) (h .1) in
-    let all : leading isHex ps ≡ length ps = eqb-true _ _ (i .1) in
-    pairs-back ps (eqb-true (length ps % 2) 0 (i .0)) (omega arith))
-    (or-true (eqb (suc (length ps)) 0) (eqb x 32 && isPairs ps) e)
-
-text-pairs : (l : List ℕ) → wellFormed l ≡ true → pairsOf (textOf l) ≡ textPairs l
-unfolding wellFormed
-text-pairs l e =
-    let d : drop 1 (drop 8 l) ≡ drop 9 l = drop-drop 1 8 l in
-    rw (← d) (tail-pairs (drop 8 l) (and-true (headFormed l) (tailFormed (drop 8 l)) e .1))
-
--- ---- the kind and the digits that are heard of groups, by the kind that was sent
-
--- with groups the kind is the page's, and the digits are those of their text
-pub record Shown (kind : ℕ) (gs : List ℕ) : Type 0 where
-  pub kind-is : 0 < length gs → kindHeard (functionOf kind) gs ≡ kind
-  pub digits-are : digitsHeard (functionOf kind) gs ≡ pairsOf (heardText (codingOf kind) gs)
-
--- with none it is the function's tone
-pub tone-kind : (f : ℕ) (gs : List ℕ) → length gs ≡ 0 → kindHeard f gs ≡ f
-tone-kind f [] e = refl
-tone-kind f (g ∷ gs) e = absurd (omega arith)
-
-text-kind : (f : ℕ) (gs : List ℕ) → 0 < length gs → kindHeard f gs ≡ cond (eqb f 0) 4 (cond (eqb f 3) 5 (f + 5))
-text-kind f [] h = absurd (omega arith)
-text-kind f (g ∷ gs) h = refl
-
--- a tone
-no-text : (c : Coding) → heardText c [] ≡ []
-unfolding heardText trimmed tab
-no-text Numeric = refl
-no-text Alphanumeric = refl
-
-no-digits : (f : ℕ) → digitsHeard f [] ≡ []
-unfolding fives pairsOf
-no-digits f = rw (no-text Numeric, no-text Alphanumeric) (go (eqb f 0) (eqb f 3))
-  where
-    go : (t u : Bool) → cond {A = List ℕ} t [] (cond u [] []) ≡ []
-    go true u = refl
-    go false true = refl
-    go false false = refl
-
-shown-tone : (kind : ℕ) (gs : List ℕ) → length gs ≡ 0 → Shown kind gs
-unfolding pairsOf
-shown-tone kind [] e =
-    record { kind-is = λ h. absurd (omega arith); digits-are = rw (no-text (codingOf kind)) (no-digits (functionOf kind)) }
-shown-tone kind (g ∷ gs) e = absurd (omega arith)
-
-shown-numeric : (gs : List ℕ) → Shown 4 gs
-unfolding functionOf codingOf
-shown-numeric gs = record { kind-is = text-kind 0 gs; digits-are = refl }
-
-shown-alphanumeric : (gs : List ℕ) → Shown 5 gs
-unfolding functionOf codingOf
-shown-alphanumeric gs = record { kind-is = text-kind 3 gs; digits-are = refl }
-
-pub shown : (kind : ℕ) (gs : List ℕ) → kind ≤ 5 → (kind ≤ 3 → length gs ≡ 0) → Shown kind gs
-shown kind gs most tone =
-    ⊎-elim
-    (λ h. shown-tone kind gs (tone h))
-    (λ h. ⊎-elim
-    (λ (e : 4 ≡ kind). rw (← e) (shown-numeric gs))
-    (λ l. let e : 5 ≡ kind = omega arith in rw (← e) (shown-alphanumeric gs))
-    (eq-or-lt-of-le h))
-    (le-or-lt kind 3)
+use Rattle.guarantees.proofs.Digits.{digitsFrom, shown}
 
 -- ---- the groups of a page's text
 
 tone-function : (kind : ℕ) → kind ≤ 3 → functionOf kind ≡ kind
 unfolding functionOf
-tone-function kind h = rw (ne-eqb kind 4 (λ e. omega arith), ne-eqb kind 5 (λ e. omega arith))
+tone-function kind h =
+    rw (ne-eqb kind 4 (λ e. omega arith), ne-eqb kind 5 (λ e. omega arith), ne-eqb kind 6 (λ e. omega arith), ne-eqb kind 7 (λ e. omega arith))
 
-no-groups : (c : Coding) (bytes : List ℕ) → length bytes ≡ 0 → length (groupsIn c bytes) ≡ 0
-no-groups Numeric bytes e = omega (arith, groups-length Numeric bytes)
-no-groups Alphanumeric bytes e = omega (arith, groups-length Alphanumeric bytes)
+none-or-some : (c : Coding) (n : ℕ) → (n ≡ 0 → groupsOf c n ≡ 0) × (1 ≤ n → 1 ≤ groupsOf c n)
+none-or-some Numeric n = (λ e. omega arith, λ h. omega arith)
+none-or-some Alphanumeric n = (λ e. omega arith, λ h. omega arith)
 
-some-groups : (c : Coding) (bytes : List ℕ) → 1 ≤ length bytes → 0 < length (groupsIn c bytes)
-some-groups Numeric bytes h = omega (arith, groups-length Numeric bytes)
-some-groups Alphanumeric bytes h = omega (arith, groups-length Alphanumeric bytes)
+-- what is known of a page by its sound line: a tone has no groups, any other page has, and its digits are heard from the groups
+pub record HeardBack (kind : ℕ) (digits : List ℕ) : Type 0 where
+  pub known : kind ≤ 7
+  pub tone : kind ≤ 3 → length (groupsFrom kind digits) ≡ 0
+  pub some : 4 ≤ kind → 1 ≤ length (groupsFrom kind digits)
+  pub back : digitsFrom kind (groupsFrom kind digits) ≡ digits
 
--- what is known of a page by its sound line: a tone has no groups, and the text is heard from the groups
-pub record HeardBack (kind : ℕ) (bytes : List ℕ) : Type 0 where
-  pub known : kind ≤ 5
-  pub tone : kind ≤ 3 → length (groupsIn (codingOf kind) bytes) ≡ 0
-  pub back : heardText (codingOf kind) (groupsIn (codingOf kind) bytes) ≡ bytes
+module _ (l : List ℕ) (s : Sound l) where
+  abbrev kind : ℕ
+  kind = kindOf l
 
-heard-back : (l : List ℕ) → Sound l → HeardBack (kindOf l) (textOf l)
-heard-back l s =
-    record {
-      known = s .known;
-      tone = λ h. no-groups (codingOf (kindOf l)) (textOf l) (s .tone h);
-      back = text-back (codingOf (kindOf l)) (textOf l) (s .chars) (s .unspaced);
-    }
+  abbrev digits : List ℕ
+  digits = textDigits l
 
-pub page-back : (s : List ℕ) (n : ℕ) → jobOf s ≡ Accepted n → (p : ℕ) → p < n → HeardBack (pageAt s p .kind) (bytesOf (digitsAt s p))
+  coded-back : kind ≤ 5 → HeardBack kind digits
+  coded-back h =
+      let t = s .text h in
+      let d : isData kind ≡ false = no-data kind h in
+      let size : length (groupsFrom kind digits) ≡ groupsOf (codingOf kind) (length (textOf l)) =
+      ap length (from-text kind digits d) ∙ groups-length (codingOf kind) (textOf l) in
+      let n = none-or-some (codingOf kind) (length (textOf l)) in
+      record {
+        known = s .known;
+        tone = λ z. size ∙ n .0 (t .tone z);
+        some = λ z. rw size (n .1 (t .some z));
+        back = rw (from-text kind digits d, d) (ap pairsOf (text-back (codingOf kind) (textOf l) (t .chars) (t .unspaced)) ∙ pairs-back digits (text-even l d (s .formed)) (text-hex l (s .formed)));
+      }
+
+  data-back : 5 < kind → HeardBack kind digits
+  data-back h =
+      let t = s .grouped h in
+      let d : isData kind ≡ true = is-data kind h (s .known) in
+      let size : length (groupsFrom kind digits) ≡ length digits / 5 = ap length (from-data kind digits d) ∙ fives-count digits in
+      record {
+        known = s .known;
+        tone = λ z. absurd (omega arith);
+        some = λ _. omega (arith, size, t .whole, t .some);
+        back = rw (from-data kind digits d, d) (fives-back digits (t .whole) (text-hex l (s .formed)));
+      }
+
+  heard-back : HeardBack kind digits
+  heard-back = ⊎-elim coded-back data-back (le-or-lt kind 5)
+
+pub page-back : (s : List ℕ) (n : ℕ) → jobOf s ≡ Accepted n → (p : ℕ) → p < n → HeardBack (pageAt s p .kind) (digitsAt s p)
 page-back s n ok p h =
     let a = accepted-job s n ok in
     let r = a .page p h in
@@ -151,17 +100,17 @@ page-back s n ok p h =
 
 -- ---- the line
 
-line-heard : (l : List ℕ) → Sound l → lineHeard (hearingOf (sendingFrom (identityOf l) (kindOf l) (textPairs l))) ≡ l ++ (10 ∷ [])
+line-heard : (l : List ℕ) → Sound l → lineHeard (hearingOf (sendingFrom (identityOf l) (kindOf l) (textDigits l))) ≡ l ++ (10 ∷ [])
 line-heard l s =
-    let gs = groupsIn (codingOf (kindOf l)) (textOf l) in
+    let gs = groupsFrom (kindOf l) (textDigits l) in
     let t = heard-back l s in
     let h = shown (kindOf l) gs (t .known) (t .tone) in
     let kind : kindHeard (functionOf (kindOf l)) gs ≡ kindOf l =
     ⊎-elim
-    (λ e. tone-kind (functionOf (kindOf l)) gs (t .tone e) ∙ tone-function (kindOf l) e)
-    (λ e. h .kind-is (some-groups (codingOf (kindOf l)) (textOf l) (s .some e)))
+    (λ e. h .tone-is (t .tone e) ∙ tone-function (kindOf l) e)
+    (λ e. h .kind-is (t .some e))
     (le-or-lt (kindOf l) 3) in
-    ap₂ (λ (k : ℕ) (ds : List ℕ). printed (identityOf l) k ds false) kind (h .digits-are ∙ ap pairsOf (t .back) ∙ text-pairs l (s .formed))
+    ap₂ (λ (k : ℕ) (ds : List ℕ). printed (identityOf l) k ds false) kind (h .digits-are ∙ t .back)
     ∙ line-printed l s
 
 pub line-back : LineBack

@@ -55,13 +55,18 @@ pub record Call (s w₀ t₀ : List ℕ) (r : Report) (w t : List ℕ) : Type 0 
 abbrev pub page : List ℕ → ℕ → Sending
 page s i = sendingOf s (pageAt s i)
 
--- the message codewords of a page of a kind with c characters: none for a tone, c / 5 for numeric ones, 7 c / 20 for alphanumeric ones, each rounded up
-unfoldable pub messageCount : ℕ → ℕ → ℕ
-messageCount kind c = cond (leb kind 3) 0 (cond (eqb kind 4) ((c + 4) / 5) ((7 * c + 19) / 20))
+-- the message codewords of a page of a kind, by the digits of its text: none for a tone, c / 5 for c numeric characters and 7 c / 20 for c
+-- alphanumeric ones, each rounded up, and one for each five digits of data (request R-11)
+unfoldable pub messageCount : ℕ → List ℕ → ℕ
+messageCount kind digits =
+    cond (leb kind 3) 0
+    (cond (eqb kind 4) ((length (bytesOf digits) + 4) / 5)
+    (cond (eqb kind 5) ((7 * length (bytesOf digits) + 19) / 20)
+    (length digits / 5)))
 
 -- those of page i
 abbrev pub count : List ℕ → ℕ → ℕ
-count s i = messageCount (pageAt s i .kind) (length (bytesOf (digitsAt s i)))
+count s i = messageCount (pageAt s i .kind) (digitsAt s i)
 
 -- the slot that is reported for page i
 abbrev pub slot : List ℕ → ℕ → ℕ

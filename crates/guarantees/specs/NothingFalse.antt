@@ -1,16 +1,14 @@
 -- R-9, nothing false with three wrong bits: what is read of a job's transmission with up to two flips in a sync and three in a frame codeword.
 -- `nothing-false` in proofs/NothingFalse.antt proves it.
 use mathlib.Core.Path.{_≡_}
-use mathlib.Core.Bool.{Bool, true, false, _||_}
+use mathlib.Core.Bool.{Bool, true, false, cond, _||_}
 use mathlib.Core.List.{List, [], _∷_, flatMap}
-use Prim.Native.Nat.{ℕ, _+_, _*_, _≤_, _<_}
+use Prim.Native.Nat.{ℕ, _+_, _*_, _%_, _≤_, _<_}
 use lib.Dec.{eqb}
 use lib.ListN.{length, getD, take, drop}
-use Rattle.base.specs.Hex.{bytesOf, pairsOf}
 use Rattle.base.specs.Lists.{Begins}
 use Rattle.codeword.specs.Nearest.{nearest}
-use Rattle.text.specs.Heard.{heardText}
-use Rattle.job.specs.Line.{codingOf, functionOf}
+use Rattle.job.specs.Line.{isData, functionOf}
 use Rattle.job.specs.Pages.{pageAt, digitsAt}
 use Rattle.job.specs.Print.{printed}
 use Rattle.job.specs.Job.{jobOf}
@@ -24,6 +22,7 @@ use Rattle.transmission.specs.declared.Report.the-variants.{Sent}
 use Rattle.listing.specs.Text.{textOf}
 use Rattle.listing.specs.Words.{wordsOf}
 use Rattle.reader.specs.Meaning.{meaning}
+use Rattle.reader.specs.Lines.{digitsHeard}
 use Rattle.reader.specs.Answers.{readWords, readListing}
 use Rattle.reader.specs.declared.Meaning.the-variants.{Lost}
 use Rattle.reader.specs.declared.Reading.{Reading}
@@ -64,6 +63,10 @@ unfoldable pub hasDash : List ℕ → Bool
 hasDash [] = false
 hasDash (b ∷ line) = eqb b 45 || hasDash line
 
+-- how many digits of a text belong together: a character's pair, or a group of data
+abbrev pub together : ℕ → ℕ
+together kind = cond (isData kind) 5 2
+
 -- a line of page i that is cut short
 pub record Cut (s words : List ℕ) (i : ℕ) (line : List ℕ) : Type 0 where
   -- so many of its message words are read, and the word behind these, one of its message or the next slot's, has three flips
@@ -72,13 +75,14 @@ pub record Cut (s words : List ℕ) (i : ℕ) (line : List ℕ) : Type 0 where
   pub before : (j : ℕ) → j ≤ read → slotFlips s words (addressSlot s i + j) ≤ 2
   pub inside : addressSlot s i + read + 1 < slotCount s
   pub broken : slotFlips s words (addressSlot s i + read + 1) ≡ 3
-  -- the line has the page's identity, a kind, a text, and `-`
+  -- the line has the page's identity, a kind, the digits of a text, and `-`
   pub kind : ℕ
-  pub text : List ℕ
-  pub line-is : line ≡ printed (pageAt s i .identity) kind (pairsOf text) true
-  -- the text is that of the message words that are read, and begins the page's text
-  pub text-is : text ≡ heardText (codingOf (pageAt s i .kind)) (take read (page s i .groups))
-  pub begins : Begins text (bytesOf (digitsAt s i))
+  pub digits : List ℕ
+  pub line-is : line ≡ printed (pageAt s i .identity) kind digits true
+  -- the text is that of the message words that are read, in whole characters or groups, and begins the page's text
+  pub digits-are : digits ≡ digitsHeard (functionOf (pageAt s i .kind)) (take read (page s i .groups))
+  pub whole : length digits % together (pageAt s i .kind) ≡ 0
+  pub begins : Begins digits (digitsAt s i)
   -- where no message word is read the kind is the function's tone, else that of the undamaged line
   pub tone : read ≡ 0 → kind ≡ functionOf (pageAt s i .kind)
   pub same : 0 < read → kind ≡ pageAt s i .kind

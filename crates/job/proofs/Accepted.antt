@@ -2,7 +2,7 @@
 use Prim.Native.Nat.{ℕ, zero, suc, _+_, _-_, _*_, _%_, _≤_, _<_, zero-le}
 use mathlib.Core.Path.{_≡_, refl, sym, ap, _∙_}
 use mathlib.Core.List.{List, [], _∷_}
-use mathlib.Core.Bool.{Bool, true, false, cond, not, _&&_}
+use mathlib.Core.Bool.{Bool, true, false, cond}
 use mathlib.Core.Logic.{⊎-elim}
 use native.Mathlib.Nat.{eq-or-lt-of-le}
 use native.Mathlib.Omega.{arith}
@@ -11,11 +11,9 @@ use lib.Seq.{drop-drop}
 use lib.Dec.{leb, eqb}
 use borrow.Author.Tests.{leb-false, eqb-true, eqb-false}
 use Rattle.base.specs.Lines.{Lines, behind, line, onto, split, lineAt, lineEnd}
-use Rattle.base.proofs.Bools.{and-true, or-true}
-use Rattle.base.proofs.HexLaws.{bytes-length}
 use Rattle.base.proofs.LinesLaws.{end-after, end-inside, cut}
 use Rattle.base.proofs.ListLaws.{drop-take}
-use Rattle.job.specs.Line.{allHex, isPairs, headFormed, tailFormed, wellFormed, longestOf, kindOf, lineOf, textPairs, textOf, pageFrom}
+use Rattle.job.specs.Line.{lineOf, textDigits, pageFrom}
 use Rattle.job.specs.Pages.{pagesFrom, pagesOf, noPage, pageAt, digitsIn, digitsAt}
 use Rattle.job.specs.Job.{after, judge, jobOf, tableOf, answerWith, readingOf}
 use Rattle.job.specs.Accepted.{Sound, PageRead, AcceptedJob}
@@ -26,7 +24,7 @@ use Rattle.job.specs.declared.LineAnswer.{LineAnswer}
 use Rattle.job.specs.declared.LineAnswer.the-variants.{Good, Faulty}
 use Rattle.job.specs.declared.JobAnswer.{JobAnswer}
 use Rattle.job.specs.declared.JobAnswer.the-variants.{Accepted, Refused}
-use Rattle.job.proofs.Laws.{formed-long, judge-unended, first-length, pages-next, pages-none}
+use Rattle.job.proofs.Laws.{judge-unended, first-length, pages-next, pages-none}
 use Rattle.job.proofs.Sound.{sound}
 
 -- ---- what an accepting answer says of the tests that led to it
@@ -45,35 +43,9 @@ after-good (Faulty w) p r e = let z : _≡_ {A = ℕ} 0 1 = cc in absurd (omega 
 
 -- ---- how long a line and a job are
 
--- what stands behind a well-formed line's ninth byte are pairs
-even : (t : List ℕ) → tailFormed t ≡ true → length (drop 1 t) % 2 ≡ 0
-unfolding tailFormed isPairs
-even t e =
-    ⊎-elim
-    (λ z. omega (arith, length-drop 1 t, eqb-true (length t) 0 z))
-    (λ z. let h = and-true (eqb (getD t 0 0) 32) (isPairs (drop 1 t)) z in
-    let i = and-true (not (eqb (length (drop 1 t)) 0)) (eqb (length (drop 1 t) % 2) 0 && allHex (drop 1 t)) (h .1) in
-    eqb-true (length (drop 1 t) % 2) 0 (and-true (eqb (length (drop 1 t) % 2) 0) (allHex (drop 1 t)) (i .1) .0))
-    (or-true (eqb (length t) 0) (eqb (getD t 0 0) 32 && isPairs (drop 1 t)) e)
-
-text-length : (l : List ℕ) → wellFormed l ≡ true → 2 * length (textOf l) ≡ length l - 9
-unfolding wellFormed
-text-length l e =
-    let h = even (drop 8 l) (and-true (headFormed l) (tailFormed (drop 8 l)) e .1) in
-    omega (arith, bytes-length (textPairs l), length-drop 9 l, length-drop 1 (drop 8 l), length-drop 8 l)
-
-pub longest-few : (kind : ℕ) → longestOf kind ≤ 240
-unfolding longestOf
-longest-few kind = go (leb kind 3) (eqb kind 4)
-  where
-    go : (x y : Bool) → cond x 0 (cond y 60 240) ≤ 240
-    go true y = omega arith
-    go false true = omega arith
-    go false false = omega arith
-
--- a head of eight bytes, a space and 240 pairs
+-- a head of eight bytes, a space and 480 digits
 line-short : (l : List ℕ) → Sound l → length l ≤ 489
-line-short l s = omega (arith, text-length l (s .formed), s .most, longest-few (kindOf l))
+line-short l s = omega (arith, s .short, length-drop 9 l)
 
 -- the bytes of lines, their newlines among them
 unfoldable bytesIn : Lines → ℕ
@@ -150,7 +122,7 @@ stands s (suc p) at h i =
 
 -- ---- a page's text
 
-text-there : (s l : List ℕ) (b : ℕ) → take (length l) (drop b s) ≡ l → digitsIn s (pageFrom b l) ≡ textPairs l
+text-there : (s l : List ℕ) (b : ℕ) → take (length l) (drop b s) ≡ l → digitsIn s (pageFrom b l) ≡ textDigits l
 text-there s l b there = rw (← drop-drop 9 b s, ← drop-take 9 (length l) (drop b s), there)
 
 -- ---- an accepted job
@@ -188,7 +160,7 @@ module _ (s : List ℕ) (n : ℕ) (ok : jobOf s ≡ Accepted n) where
   page p h =
       let w = place p h in
       let l = lineAt p (split s) in
-      let digits : digitsAt s p ≡ textPairs l = rw (w .page) (text-there s l (w .byte) (w .there)) in
+      let digits : digitsAt s p ≡ textDigits l = rw (w .page) (text-there s l (w .byte) (w .there)) in
       record {
         identity-is = ap (λ (x : Page). x .identity) (w .page);
         kind-is = ap (λ (x : Page). x .kind) (w .page);

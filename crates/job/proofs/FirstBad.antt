@@ -1,5 +1,5 @@
 -- Number 6 names the first bad character. Assumes nothing.
-use Prim.Native.Nat.{ℕ, zero, suc, _+_, _-_, _≤_, _<_}
+use Prim.Native.Nat.{ℕ, zero, suc, _+_, _-_, _/_, _%_, _≤_, _<_}
 use mathlib.Core.Path.{_≡_, refl}
 use mathlib.Core.List.{List}
 use mathlib.Core.Bool.{Bool, true, false, cond}
@@ -7,16 +7,16 @@ use native.Mathlib.Omega.{arith}
 use lib.ListN.{length}
 use lib.Dec.{leb, ltb, eqb}
 use borrow.Author.Tests.{ltb-true}
-use Rattle.base.specs.Hex.{between}
+use Rattle.base.specs.Hex.{between, bytesOf}
 use Rattle.base.specs.Lines.{Lines, behind, line, split, lineAt}
 use Rattle.base.proofs.LeadingLaws.{leading-each, leading-first}
 use Rattle.text.specs.Coding.{charOk, endsInSpace}
-use Rattle.job.specs.Line.{wellFormed, isReserved, longestOf, codingOf, goodRun, tonePageOf, textPageOf, kindPageOf, pageOf, lineOf, identityOf, kindOf, textOf, pageFrom}
+use Rattle.job.specs.Line.{wellFormed, isReserved, longestOf, codingOf, isData, goodRun, tonePageOf, textPageOf, dataPageOf, kindPageOf, pageOf, lineOf, identityOf, kindOf, textDigits, textOf, pageFrom}
 use Rattle.job.specs.Job.{after, judge, jobOf}
 use Rattle.job.specs.Refusal.{numberOf, positionOf, jobNumber, jobPlace, jobPosition}
 use Rattle.job.specs.FirstBad.{FirstBad, Positioned}
 use Rattle.job.specs.declared.Refusal.{Refusal}
-use Rattle.job.specs.declared.Refusal.the-variants.{Malformed, IdentityRange, IdentityReserved, UnknownKind, ToneWithText, TextMissing, TextTooLong, Character, TrailingSpace, TooManyLines, EmptyJob}
+use Rattle.job.specs.declared.Refusal.the-variants.{Malformed, IdentityRange, IdentityReserved, UnknownKind, PartialGroup, ToneWithText, TextMissing, TextTooLong, Character, TrailingSpace, TooManyLines, EmptyJob}
 use Rattle.job.specs.declared.Page.{Page}
 use Rattle.job.specs.declared.LineAnswer.{LineAnswer}
 use Rattle.job.specs.declared.LineAnswer.the-variants.{Good, Faulty}
@@ -66,29 +66,36 @@ module _ (page : Page) (bytes : List ℕ) where
       char true h e = run-bad kind bytes (ltb-true _ _ h)
       char false h e = spaced e
 
-  kind-bad : Bad6 kind bytes (kindPageOf page bytes)
-  unfolding kindPageOf tonePageOf
-  kind-bad = by-kind (between 0 3 kind) (between 4 5 kind)
-    where
-      tone : (t : Bool) → Bad6 kind bytes (cond t (Good page) (Faulty ToneWithText))
-      tone true e = absurd (omega arith)
-      tone false e = absurd (omega arith)
+kind-bad : (page : Page) (digits : List ℕ) → Bad6 (page .kind) (bytesOf digits) (kindPageOf page digits)
+unfolding kindPageOf tonePageOf dataPageOf
+kind-bad page digits = by-kind (between 0 3 (page .kind)) (between 4 5 (page .kind)) (isData (page .kind))
+  where
+    tone : (t : Bool) → Bad6 (page .kind) (bytesOf digits) (cond t (Good page) (Faulty ToneWithText))
+    tone true e = absurd (omega arith)
+    tone false e = absurd (omega arith)
 
-      by-kind : (t u : Bool) → Bad6 kind bytes (cond t (tonePageOf page bytes) (cond u (textPageOf page bytes) (Faulty UnknownKind)))
-      by-kind true u = tone (eqb (length bytes) 0)
-      by-kind false true = text-bad
-      by-kind false false = λ e. absurd (omega arith)
+    fives : Bad6 (page .kind) (bytesOf digits) (dataPageOf page digits)
+    fives =
+        other (page .kind) (bytesOf digits) (ltb 0 (length digits % 5)) PartialGroup _ (λ n. omega arith)
+        (other (page .kind) (bytesOf digits) (eqb (length digits) 0) TextMissing _ (λ n. omega arith)
+        (other (page .kind) (bytesOf digits) (ltb 84 (length digits / 5)) TextTooLong _ (λ n. omega arith) (λ e. absurd (omega arith))))
+
+    by-kind : (t u d : Bool) → Bad6 (page .kind) (bytesOf digits) (cond t (tonePageOf page digits) (cond u (textPageOf page (bytesOf digits)) (cond d (dataPageOf page digits) (Faulty UnknownKind))))
+    by-kind true u d = tone (eqb (length digits) 0)
+    by-kind false true d = text-bad page (bytesOf digits)
+    by-kind false false true = fives
+    by-kind false false false = λ e. absurd (omega arith)
 
 line-bad : (at : ℕ) (l : List ℕ) → Bad6 (kindOf l) (textOf l) (lineOf at l)
 unfolding lineOf pageOf
 line-bad at l = formed (wellFormed l)
   where
-    page : Bad6 (kindOf l) (textOf l) (pageOf (pageFrom at l) (textOf l))
+    page : Bad6 (kindOf l) (textOf l) (pageOf (pageFrom at l) (textDigits l))
     page =
         other (kindOf l) (textOf l) (ltb 0x1FFFFF (identityOf l)) IdentityRange _ (λ n. omega arith)
-        (other (kindOf l) (textOf l) (isReserved (identityOf l)) IdentityReserved _ (λ n. omega arith) (kind-bad (pageFrom at l) (textOf l)))
+        (other (kindOf l) (textOf l) (isReserved (identityOf l)) IdentityReserved _ (λ n. omega arith) (kind-bad (pageFrom at l) (textDigits l)))
 
-    formed : (t : Bool) → Bad6 (kindOf l) (textOf l) (cond t (pageOf (pageFrom at l) (textOf l)) (Faulty Malformed))
+    formed : (t : Bool) → Bad6 (kindOf l) (textOf l) (cond t (pageOf (pageFrom at l) (textDigits l)) (Faulty Malformed))
     formed true = page
     formed false = λ e. absurd (omega arith)
 

@@ -1,4 +1,5 @@
 pub mod Laws
+pub mod Message
 pub mod Sound
 pub mod Keeping
 pub mod Accepted

@@ -1,6 +1,6 @@
 -- The line of an accepted page prints as it was. Assumes nothing.
 use mathlib.Core.Path.{_≡_, refl, sym, ap, ap₂, _∙_}
-use mathlib.Core.Bool.{Bool, true, false, not, _&&_, _||_}
+use mathlib.Core.Bool.{Bool, true, false, _&&_, _||_}
 use mathlib.Core.List.{List, [], _∷_, _++_, append-assoc}
 use mathlib.Core.Logic.{⊎-elim}
 use Prim.Native.Nat.{ℕ, suc, _%_, _≤_, _<_}
@@ -8,16 +8,17 @@ use native.Mathlib.Omega.{arith}
 use lib.ListN.{length, getD, take, drop, take-append-drop}
 use lib.Seq.{drop-cons, drop-drop, length-take-le}
 use lib.Dec.{leb, eqb}
-use borrow.Author.Tests.{leb-true, eqb-true, eqb-false, not-true}
+use borrow.Author.Tests.{leb-true, eqb-true}
 use Rattle.base.specs.Hex.{isHex, hexOf, digitOf, digitsOf, hexNumber}
 use Rattle.base.specs.Leading.{leading}
 use Rattle.base.specs.Lines.{split, lineAt}
 use Rattle.base.proofs.Bools.{and-true, or-true}
 use Rattle.base.proofs.HexLaws.{hex-small, value-digit, number-digits}
-use Rattle.job.specs.Line.{allHex, isPairs, headFormed, tailFormed, wellFormed, identityOf, kindOf, textPairs}
+use Rattle.job.specs.Line.{allHex, headFormed, textFormed, tailFormed, wellFormed, identityOf, kindOf, textDigits}
 use Rattle.job.specs.Print.{headOf, spaced, printed}
 use Rattle.job.specs.Accepted.{Sound, PageRead, AcceptedJob}
 use Rattle.job.specs.PrintsBack.{LinePrinted, PagePrinted}
+use Rattle.job.proofs.Laws.{digits-some, formed-digits}
 use Rattle.job.proofs.PrintLaws.{spaced-some}
 
 -- the six digits of identity are those of the number that they write
@@ -28,18 +29,17 @@ six-back l h e =
     ap (λ (k : ℕ). digitsOf k (identityOf l)) (sym n) ∙ number-digits 0 (take 6 l) (omega arith)
 
 -- behind the kind stands what the text's digits print as
-tail-back : (t : List ℕ) → tailFormed t ≡ true → spaced (drop 1 t) ≡ t
-unfolding tailFormed isPairs
-tail-back [] e = refl
-tail-back (x ∷ ps) e =
+tail-back : (kind : ℕ) (t : List ℕ) → tailFormed kind t ≡ true → spaced (drop 1 t) ≡ t
+unfolding tailFormed
+tail-back kind [] e = refl
+tail-back kind (x ∷ ds) e =
     ⊎-elim
-    (λ z. let none : suc (length ps) ≡ 0 = eqb-true (suc (length ps)) 0 z in absurd (omega arith))
+    (λ z. let none : suc (length ds) ≡ 0 = eqb-true (suc (length ds)) 0 z in absurd (omega arith))
     (λ z.
-    let h = and-true (eqb x 32) (isPairs ps) z in
-    let some : length ps ≡ 0 → ⊥ = eqb-false (length ps) 0 (not-true (eqb (length ps) 0) (and-true (not (eqb (length ps) 0)) _ (h .1) .0)) in
+    let h = and-true (eqb x 32) (textFormed kind ds) z in
     let space : x ≡ 32 = eqb-true x 32 (h .0) in
-    spaced-some ps (omega arith) ∙ ap (λ (y : ℕ). y ∷ ps) (sym space))
-    (or-true (eqb (suc (length ps)) 0) (eqb x 32 && isPairs ps) e)
+    spaced-some ds (digits-some ds (formed-digits kind ds (h .1))) ∙ ap (λ (y : ℕ). y ∷ ds) (sym space))
+    (or-true (eqb (suc (length ds)) 0) (eqb x 32 && textFormed kind ds) e)
 
 -- a line by its parts
 parts : (l : List ℕ) → 8 ≤ length l → l ≡ take 6 l ++ (getD l 6 0 ∷ getD l 7 0 ∷ drop 8 l)
@@ -51,7 +51,7 @@ parts l h =
 pub line-printed : LinePrinted
 unfolding printed wellFormed headFormed
 line-printed l s =
-    let w = and-true (headFormed l) (tailFormed (drop 8 l)) (s .formed) in
+    let w = and-true (headFormed l) (tailFormed (kindOf l) (drop 8 l)) (s .formed) in
     let h = and-true (leb 8 (length l)) _ (w .0) in
     let long : 8 ≤ length l = leb-true 8 (length l) (h .0) in
     let i = and-true (allHex (take 6 l)) _ (h .1) in
@@ -60,7 +60,7 @@ line-printed l s =
     (let small : kindOf l % 16 ≡ kindOf l = omega (arith, hex-small (getD l 7 0)) in ap digitOf small ∙ value-digit (getD l 7 0) (k .1)) in
     let head : headOf (identityOf l) (kindOf l) ≡ take 6 l ++ (getD l 6 0 ∷ getD l 7 0 ∷ []) =
     ap₂ _++_ (six-back l long (i .0)) (ap₂ _∷_ (sym (eqb-true (getD l 6 0) 32 (k .0))) (ap (λ (d : ℕ). d ∷ []) kind)) in
-    let tail : spaced (textPairs l) ≡ drop 8 l = ap spaced (sym (drop-drop 1 8 l)) ∙ tail-back (drop 8 l) (w .1) in
+    let tail : spaced (textDigits l) ≡ drop 8 l = ap spaced (sym (drop-drop 1 8 l)) ∙ tail-back (kindOf l) (drop 8 l) (w .1) in
     ap₂ (λ (x y : List ℕ). x ++ (y ++ (10 ∷ []))) head tail
     ∙ append-assoc (take 6 l) (getD l 6 0 ∷ getD l 7 0 ∷ []) (drop 8 l ++ (10 ∷ []))
     ∙ sym (append-assoc (take 6 l) (getD l 6 0 ∷ getD l 7 0 ∷ drop 8 l) (10 ∷ []))

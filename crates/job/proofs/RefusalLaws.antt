@@ -5,13 +5,14 @@ use mathlib.Core.Bool.{true, false}
 use Rattle.base.proofs.Bools.{true-false}
 use Rattle.job.specs.Refusal.{numberOf, positionOf, declinesJob}
 use Rattle.job.specs.declared.Refusal.{Refusal}
-use Rattle.job.specs.declared.Refusal.the-variants.{Malformed, IdentityRange, IdentityReserved, UnknownKind, ToneWithText, TextMissing, TextTooLong, Character, TrailingSpace, TooManyLines, EmptyJob}
+use Rattle.job.specs.declared.Refusal.the-variants.{Malformed, IdentityRange, IdentityReserved, UnknownKind, PartialGroup, ToneWithText, TextMissing, TextTooLong, Character, TrailingSpace, TooManyLines, EmptyJob}
 
 pub refused-number : (why : Refusal) → declinesJob (numberOf why) ≡ true
 refused-number Malformed = refl
 refused-number IdentityRange = refl
 refused-number IdentityReserved = refl
 refused-number UnknownKind = refl
+refused-number PartialGroup = refl
 refused-number ToneWithText = refl
 refused-number TextMissing = refl
 refused-number TextTooLong = refl
@@ -30,6 +31,7 @@ refused-position Malformed h = refl
 refused-position IdentityRange h = refl
 refused-position IdentityReserved h = refl
 refused-position UnknownKind h = refl
+refused-position PartialGroup h = refl
 refused-position ToneWithText h = refl
 refused-position TextMissing h = refl
 refused-position TextTooLong h = refl

@@ -1,24 +1,29 @@
 -- A line that is good is sound: none of the tests that could decline it did. Assumes nothing.
-use Prim.Native.Nat.{ℕ, _+_, _≤_, _<_}
-use mathlib.Core.Path.{_≡_, refl, sym, _∙_}
+use Prim.Native.Nat.{ℕ, _+_, _/_, _%_, _≤_, _<_}
+use mathlib.Core.Path.{_≡_, refl, sym}
 use mathlib.Core.List.{List}
 use mathlib.Core.Bool.{Bool, true, false, cond}
+use mathlib.Core.Logic.{⊎-elim}
 use native.Mathlib.Omega.{arith}
 use lib.ListN.{length}
 use lib.Dec.{leb, ltb, eqb}
 use borrow.Author.Tests.{ltb-false, leb-true, eqb-true, eqb-false, ne-eqb}
-use Rattle.base.specs.Hex.{between}
-use Rattle.base.specs.Leading.{leading}
+use Rattle.base.specs.Hex.{between, bytesOf}
 use Rattle.base.proofs.Bools.{and-true}
-use Rattle.text.specs.Coding.{charOk, endsInSpace, groupsOf}
+use Rattle.base.proofs.HexLaws.{bytes-length}
+use Rattle.base.proofs.SearchLaws.{le-or-lt}
+use Rattle.text.specs.Coding.{endsInSpace, groupsOf}
 use Rattle.text.specs.declared.Coding.the-variants.{Numeric, Alphanumeric}
-use Rattle.job.specs.Line.{wellFormed, isReserved, longestOf, codingOf, functionOf, goodRun, tonePageOf, textPageOf, kindPageOf, pageOf, lineOf, identityOf, kindOf, textOf, pageFrom}
-use Rattle.job.specs.Accepted.{Sound}
+use Rattle.job.specs.Line.{wellFormed, isReserved, isData, longestOf, codingOf, functionOf, goodRun, tonePageOf, textPageOf, dataPageOf, kindPageOf, pageOf, lineOf, identityOf, kindOf, textDigits, pageFrom}
+use Rattle.job.specs.Message.{countFrom}
+use Rattle.job.specs.Accepted.{TextSound, DataSound, Sound}
 use Rattle.job.specs.declared.Refusal.{Refusal}
-use Rattle.job.specs.declared.Refusal.the-variants.{Malformed, IdentityRange, IdentityReserved, UnknownKind, ToneWithText, TextMissing, TextTooLong, Character, TrailingSpace}
+use Rattle.job.specs.declared.Refusal.the-variants.{Malformed, IdentityRange, IdentityReserved, UnknownKind, PartialGroup, ToneWithText, TextMissing, TextTooLong, Character, TrailingSpace}
 use Rattle.job.specs.declared.Page.{Page}
 use Rattle.job.specs.declared.LineAnswer.{LineAnswer}
 use Rattle.job.specs.declared.LineAnswer.the-variants.{Good, Faulty}
+use Rattle.job.proofs.Laws.{text-even}
+use Rattle.job.proofs.Message.{is-data, no-data, data-kind, count-data, count-text}
 
 -- a page comes past a test only where the test failed, or where it passed
 past : (b : Bool) (w : Refusal) (r : LineAnswer) {p : Page} → cond b (Faulty w) r ≡ Good p → (b ≡ false) × (r ≡ Good p)
@@ -29,21 +34,11 @@ kept : (b : Bool) (w : Refusal) (r : LineAnswer) {p : Page} → cond b r (Faulty
 kept true w r e = (refl, e)
 kept false w r e = let z : _≡_ {A = ℕ} 0 1 = cc in absurd (omega arith)
 
--- what the kind and the text of a page have
-record Texted (kind : ℕ) (bytes : List ℕ) : Type 0 where
-  known : kind ≤ 5
-  tone : kind ≤ 3 → length bytes ≡ 0
-  some : 4 ≤ kind → 1 ≤ length bytes
-  most : length bytes ≤ longestOf kind
-  chars : length bytes ≤ leading (charOk (codingOf kind)) bytes
-  unspaced : endsInSpace (codingOf kind) bytes ≡ false
-
 -- a tone's text has no bytes, whatever its coding
-tone-texted : (kind : ℕ) (bytes : List ℕ) → kind ≤ 3 → length bytes ≡ 0 → Texted kind bytes
+tone-sound : (kind : ℕ) (bytes : List ℕ) → kind ≤ 3 → length bytes ≡ 0 → TextSound kind bytes
 unfolding codingOf endsInSpace
-tone-texted kind bytes low e =
+tone-sound kind bytes low e =
     record {
-      known = omega arith;
       tone = λ _. e;
       some = λ h. omega arith;
       most = omega arith;
@@ -51,10 +46,9 @@ tone-texted kind bytes low e =
       unspaced = rw (ne-eqb kind 4 (λ z. omega arith));
     }
 
-text-texted : (page : Page) (bytes : List ℕ) → 4 ≤ page .kind → page .kind ≤ 5 → {p : Page} → textPageOf page bytes ≡ Good p
-    → Texted (page .kind) bytes × (Good p ≡ Good page)
+text-sound : (page : Page) (bytes : List ℕ) → 4 ≤ page .kind → {p : Page} → textPageOf page bytes ≡ Good p → TextSound (page .kind) bytes × (Good p ≡ Good page)
 unfolding textPageOf
-text-texted page bytes low high e =
+text-sound page bytes low e =
     let kind = page .kind in
     let p1 = past (eqb (length bytes) 0) TextMissing _ e in
     let p2 = past (ltb (longestOf kind) (length bytes)) TextTooLong _ (p1 .1) in
@@ -62,7 +56,6 @@ text-texted page bytes low high e =
     let p4 = past (endsInSpace (codingOf kind) bytes) TrailingSpace _ (p3 .1) in
     let some : length bytes ≡ 0 → ⊥ = eqb-false (length bytes) 0 (p1 .0) in (
       record {
-        known = high;
         tone = λ h. absurd (omega arith);
         some = λ _. omega arith;
         most = ltb-false _ _ (p2 .0);
@@ -72,21 +65,51 @@ text-texted page bytes low high e =
       sym (p4 .1),
     )
 
-kind-texted : (page : Page) (bytes : List ℕ) {p : Page} → kindPageOf page bytes ≡ Good p → Texted (page .kind) bytes × (Good p ≡ Good page)
+data-sound : (page : Page) (digits : List ℕ) {p : Page} → dataPageOf page digits ≡ Good p → DataSound digits × (Good p ≡ Good page)
+unfolding dataPageOf
+data-sound page digits e =
+    let p1 = past (ltb 0 (length digits % 5)) PartialGroup _ e in
+    let p2 = past (eqb (length digits) 0) TextMissing _ (p1 .1) in
+    let p3 = past (ltb 84 (length digits / 5)) TextTooLong _ (p2 .1) in
+    let whole : length digits % 5 ≤ 0 = ltb-false 0 (length digits % 5) (p1 .0) in
+    let some : length digits ≡ 0 → ⊥ = eqb-false (length digits) 0 (p2 .0) in
+    let most : length digits / 5 ≤ 84 = ltb-false 84 (length digits / 5) (p3 .0) in
+    (record { whole = omega arith; some = omega arith; most = omega arith }, sym (p3 .1))
+
+-- what the kind and the digits of a page have
+record KindSound (kind : ℕ) (digits : List ℕ) : Type 0 where
+  known : kind ≤ 7
+  text : kind ≤ 5 → TextSound kind (bytesOf digits)
+  grouped : 6 ≤ kind → DataSound digits
+
+kind-sound : (page : Page) (digits : List ℕ) {p : Page} → kindPageOf page digits ≡ Good p → KindSound (page .kind) digits × (Good p ≡ Good page)
 unfolding kindPageOf tonePageOf
-kind-texted page bytes {p} = go (between 0 3 (page .kind)) (between 4 5 (page .kind)) refl refl
+kind-sound page digits {p} = go (between 0 3 (page .kind)) (between 4 5 (page .kind)) (isData (page .kind)) refl refl refl
   where
-    go : (t u : Bool) → between 0 3 (page .kind) ≡ t → between 4 5 (page .kind) ≡ u
-        → cond t (tonePageOf page bytes) (cond u (textPageOf page bytes) (Faulty UnknownKind)) ≡ Good p → Texted (page .kind) bytes × (Good p ≡ Good page)
-    go true u e f g =
+    go : (t u d : Bool) → between 0 3 (page .kind) ≡ t → between 4 5 (page .kind) ≡ u → isData (page .kind) ≡ d
+        → cond t (tonePageOf page digits) (cond u (textPageOf page (bytesOf digits)) (cond d (dataPageOf page digits) (Faulty UnknownKind))) ≡ Good p
+        → KindSound (page .kind) digits × (Good p ≡ Good page)
+    go true u d e f h g =
         let kind = page .kind in
-        let p = kept (eqb (length bytes) 0) ToneWithText _ g in
-        (tone-texted kind bytes (leb-true kind 3 (and-true (leb 0 kind) (leb kind 3) e .1)) (eqb-true (length bytes) 0 (p .0)), sym (p .1))
-    go false true e f g =
+        let p = kept (eqb (length digits) 0) ToneWithText _ g in
+        let none : length digits ≡ 0 = eqb-true (length digits) 0 (p .0) in
+        let low : kind ≤ 3 = leb-true kind 3 (and-true (leb 0 kind) (leb kind 3) e .1) in (
+          record { known = omega arith; text = λ _. tone-sound kind (bytesOf digits) low (omega (arith, bytes-length digits)); grouped = λ z. absurd (omega arith) },
+          sym (p .1),
+        )
+    go false true d e f h g =
         let kind = page .kind in
-        let h = and-true (leb 4 kind) (leb kind 5) f in
-        text-texted page bytes (leb-true 4 kind (h .0)) (leb-true kind 5 (h .1)) g
-    go false false e f g = let z : _≡_ {A = ℕ} 0 1 = cc in absurd (omega arith)
+        let x = and-true (leb 4 kind) (leb kind 5) f in
+        let low : 4 ≤ kind = leb-true 4 kind (x .0) in
+        let high : kind ≤ 5 = leb-true kind 5 (x .1) in
+        let t = text-sound page (bytesOf digits) low g in
+        (record { known = omega arith; text = λ _. t .0; grouped = λ z. absurd (omega arith) }, t .1)
+    go false false true e f h g =
+        let kind = page .kind in
+        let x = data-kind kind h in
+        let t = data-sound page digits g in
+        (record { known = x .1; text = λ z. absurd (omega (arith, x .0)); grouped = λ _. t .0 }, t .1)
+    go false false false e f h g = let z : _≡_ {A = ℕ} 0 1 = cc in absurd (omega arith)
 
 -- how many message codewords the longest texts take
 few-groups : (kind n : ℕ) → n ≤ longestOf kind → groupsOf (codingOf kind) n ≤ 84
@@ -99,45 +122,78 @@ few-groups kind n h = go (leb kind 3) (eqb kind 4) h
     go false true h = omega arith
     go false false h = omega arith
 
-function-small : (kind : ℕ) → kind ≤ 5 → functionOf kind < 4
-unfolding functionOf
-function-small kind h = go (eqb kind 4) (eqb kind 5) refl refl
+few-codewords : (kind : ℕ) (digits : List ℕ) → KindSound kind digits → countFrom kind (length digits) ≤ 84
+few-codewords kind digits k =
+    ⊎-elim
+    (λ (h : kind ≤ 5). rw (count-text kind (length digits) (no-data kind h), ← bytes-length digits) (few-groups kind (length (bytesOf digits)) (k .text h .most)))
+    (λ (h : 5 < kind). rw (count-data kind (length digits) (is-data kind h (k .known))) (omega (arith, k .grouped h .most)))
+    (le-or-lt kind 5)
+
+longest-few : (kind : ℕ) → longestOf kind ≤ 240
+unfolding longestOf
+longest-few kind = go (leb kind 3) (eqb kind 4)
   where
-    go : (t u : Bool) → eqb kind 4 ≡ t → eqb kind 5 ≡ u → cond t 0 (cond u 3 kind) < 4
-    go true u e f = omega arith
-    go false true e f = omega arith
-    go false false e f =
-        let four : kind ≡ 4 → ⊥ = eqb-false kind 4 e in
-        let five : kind ≡ 5 → ⊥ = eqb-false kind 5 f in
+    go : (t u : Bool) → cond t 0 (cond u 60 240) ≤ 240
+    go true u = omega arith
+    go false true = omega arith
+    go false false = omega arith
+
+-- and how many digits they have
+few-digits : (l : List ℕ) → wellFormed l ≡ true → KindSound (kindOf l) (textDigits l) → length (textDigits l) ≤ 480
+few-digits l formed k =
+    ⊎-elim
+    (λ (h : kindOf l ≤ 5). omega (arith, text-even l (no-data (kindOf l) h) formed, bytes-length (textDigits l), k .text h .most, longest-few (kindOf l)))
+    (λ (h : 5 < kindOf l). omega (arith, k .grouped h .most))
+    (le-or-lt (kindOf l) 5)
+
+function-small : (kind : ℕ) → kind ≤ 7 → functionOf kind < 4
+unfolding functionOf
+function-small kind h = go (eqb kind 4) (eqb kind 5) (eqb kind 6) (eqb kind 7) refl refl refl refl
+  where
+    go : (t u v w : Bool) → eqb kind 4 ≡ t → eqb kind 5 ≡ u → eqb kind 6 ≡ v → eqb kind 7 ≡ w → cond t 0 (cond u 3 (cond v 1 (cond w 2 kind))) < 4
+    go true u v w d e f g = omega arith
+    go false true v w d e f g = omega arith
+    go false false true w d e f g = omega arith
+    go false false false true d e f g = omega arith
+    go false false false false d e f g =
+        let four : kind ≡ 4 → ⊥ = eqb-false kind 4 d in
+        let five : kind ≡ 5 → ⊥ = eqb-false kind 5 e in
+        let six : kind ≡ 6 → ⊥ = eqb-false kind 6 f in
+        let seven : kind ≡ 7 → ⊥ = eqb-false kind 7 g in
         omega arith
 
-pub sound : (at : ℕ) (l : List ℕ) {p : Page} → lineOf at l ≡ Good p → Sound l
+-- the tests of a line that is good
+record Passed (at : ℕ) (l : List ℕ) (p : Page) : Type 0 where
+  formed : wellFormed l ≡ true
+  in-range : identityOf l ≤ 0x1FFFFF
+  free : isReserved (identityOf l) ≡ false
+  kinds : KindSound (kindOf l) (textDigits l)
+  same : Good p ≡ Good (pageFrom at l)
+
+passed : (at : ℕ) (l : List ℕ) {p : Page} → lineOf at l ≡ Good p → Passed at l p
 unfolding lineOf pageOf
-sound at l e =
+passed at l e =
     let p1 = kept (wellFormed l) Malformed _ e in
     let p2 = past (ltb 0x1FFFFF (identityOf l)) IdentityRange _ (p1 .1) in
     let p3 = past (isReserved (identityOf l)) IdentityReserved _ (p2 .1) in
-    let p4 = kind-texted (pageFrom at l) (textOf l) (p3 .1) in
-    let t = p4 .0 in
+    let p4 = kind-sound (pageFrom at l) (textDigits l) (p3 .1) in
+    record { formed = p1 .0; in-range = ltb-false _ _ (p2 .0); free = p3 .0; kinds = p4 .0; same = p4 .1 }
+
+pub sound : (at : ℕ) (l : List ℕ) {p : Page} → lineOf at l ≡ Good p → Sound l
+sound at l e =
+    let t = passed at l e in
     record {
-      formed = p1 .0;
-      in-range = ltb-false _ _ (p2 .0);
-      free = p3 .0;
-      known = t .known;
-      tone = t .tone;
-      some = t .some;
-      most = t .most;
-      chars = t .chars;
-      unspaced = t .unspaced;
-      function = function-small (kindOf l) (t .known);
-      brief = few-groups (kindOf l) (length (textOf l)) (t .most);
+      formed = t .formed;
+      in-range = t .in-range;
+      free = t .free;
+      known = t .kinds .known;
+      text = t .kinds .text;
+      grouped = t .kinds .grouped;
+      function = function-small (kindOf l) (t .kinds .known);
+      brief = few-codewords (kindOf l) (textDigits l) (t .kinds);
+      short = few-digits l (t .formed) (t .kinds);
     }
 
 -- and what it says is its page
 pub good-is : (at : ℕ) (l : List ℕ) {p : Page} → lineOf at l ≡ Good p → Good p ≡ Good (pageFrom at l)
-unfolding lineOf pageOf
-good-is at l e =
-    let p1 = kept (wellFormed l) Malformed _ e in
-    let p2 = past (ltb 0x1FFFFF (identityOf l)) IdentityRange _ (p1 .1) in
-    let p3 = past (isReserved (identityOf l)) IdentityReserved _ (p2 .1) in
-    kind-texted (pageFrom at l) (textOf l) (p3 .1) .1
+good-is at l e = passed at l e .same

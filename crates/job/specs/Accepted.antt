@@ -1,39 +1,51 @@
 -- What is known of an accepted job. `accepted-job` in proofs/Accepted.antt proves it.
-use Prim.Native.Nat.{ℕ, _≤_, _<_}
+use Prim.Native.Nat.{ℕ, _%_, _≤_, _<_}
 use mathlib.Core.Path.{_≡_}
 use mathlib.Core.List.{List}
 use mathlib.Core.Bool.{true, false}
 use lib.ListN.{length, getD}
 use Rattle.base.specs.Leading.{leading}
 use Rattle.base.specs.Lines.{split, lineAt}
-use Rattle.text.specs.Coding.{charOk, endsInSpace, groupsOf}
-use Rattle.job.specs.Line.{wellFormed, isReserved, longestOf, codingOf, functionOf, identityOf, kindOf, textPairs, textOf}
+use Rattle.text.specs.Coding.{charOk, endsInSpace}
+use Rattle.job.specs.Line.{wellFormed, isReserved, longestOf, codingOf, functionOf, identityOf, kindOf, textDigits, textOf}
+use Rattle.job.specs.Message.{countFrom}
 use Rattle.job.specs.Pages.{pagesOf, noPage, pageAt, digitsAt}
 use Rattle.job.specs.Job.{readingOf}
 
+-- a text of kinds 0 to 5: how many characters it has, each of them the kind's, and no space at the end of a numeric one
+pub record TextSound (kind : ℕ) (bytes : List ℕ) : Type 0 where
+  pub tone : kind ≤ 3 → length bytes ≡ 0
+  pub some : 4 ≤ kind → 1 ≤ length bytes
+  pub most : length bytes ≤ longestOf kind
+  pub chars : length bytes ≤ leading (charOk (codingOf kind)) bytes
+  pub unspaced : endsInSpace (codingOf kind) bytes ≡ false
+
+-- the digits of kinds 6 and 7: 1 to 84 whole groups of five
+pub record DataSound (digits : List ℕ) : Type 0 where
+  pub whole : length digits % 5 ≡ 0
+  pub some : 1 ≤ length digits
+  pub most : length digits ≤ 420
+
 -- a line that is not refused
 pub record Sound (l : List ℕ) : Type 0 where
-  -- the form, the identity, the kind
+  -- the form, the identity, the kind, the text
   pub formed : wellFormed l ≡ true
   pub in-range : identityOf l ≤ 0x1FFFFF
   pub free : isReserved (identityOf l) ≡ false
-  pub known : kindOf l ≤ 5
-  -- how many characters the text has, each of them the kind's, and no space at the end of a numeric one
-  pub tone : kindOf l ≤ 3 → length (textOf l) ≡ 0
-  pub some : 4 ≤ kindOf l → 1 ≤ length (textOf l)
-  pub most : length (textOf l) ≤ longestOf (kindOf l)
-  pub chars : length (textOf l) ≤ leading (charOk (codingOf (kindOf l))) (textOf l)
-  pub unspaced : endsInSpace (codingOf (kindOf l)) (textOf l) ≡ false
-  -- so the function fits its two bits, and the text takes at most 84 message codewords
+  pub known : kindOf l ≤ 7
+  pub text : kindOf l ≤ 5 → TextSound (kindOf l) (textOf l)
+  pub grouped : 6 ≤ kindOf l → DataSound (textDigits l)
+  -- so the function fits its two bits, the text takes at most 84 message codewords and has at most 480 digits
   pub function : functionOf (kindOf l) < 4
-  pub brief : groupsOf (codingOf (kindOf l)) (length (textOf l)) ≤ 84
+  pub brief : countFrom (kindOf l) (length (textDigits l)) ≤ 84
+  pub short : length (textDigits l) ≤ 480
 
 -- the page at index p of a job
 pub record PageRead (s : List ℕ) (p : ℕ) : Type 0 where
   -- it is what its line says, and reading the job returns it
   pub identity-is : pageAt s p .identity ≡ identityOf (lineAt p (split s))
   pub kind-is : pageAt s p .kind ≡ kindOf (lineAt p (split s))
-  pub digits-are : digitsAt s p ≡ textPairs (lineAt p (split s))
+  pub digits-are : digitsAt s p ≡ textDigits (lineAt p (split s))
   pub length-is : pageAt s p .length ≡ length (digitsAt s p)
   pub read : getD (readingOf s .pages) p noPage ≡ pageAt s p
 

@@ -1,5 +1,6 @@
 pub mod Refusal
 pub mod Line
+pub mod Message
 pub mod Pages
 pub mod Job
 pub mod Accepted

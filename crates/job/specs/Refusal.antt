@@ -1,9 +1,10 @@
--- The numbers and places of document 01's table and of request R-1, for each case of an answer.
+-- The numbers and places of document 01's table and of requests R-1 and R-11, for each case of an answer.
 use Prim.Native.Nat.{ℕ}
 use mathlib.Core.Bool.{Bool, _||_}
+use lib.Dec.{eqb}
 use Rattle.base.specs.Hex.{between}
 use Rattle.job.specs.declared.Refusal.{Refusal}
-use Rattle.job.specs.declared.Refusal.the-variants.{Malformed, IdentityRange, IdentityReserved, UnknownKind, ToneWithText, TextMissing, TextTooLong, Character, TrailingSpace, TooManyLines, EmptyJob}
+use Rattle.job.specs.declared.Refusal.the-variants.{Malformed, IdentityRange, IdentityReserved, UnknownKind, PartialGroup, ToneWithText, TextMissing, TextTooLong, Character, TrailingSpace, TooManyLines, EmptyJob}
 use Rattle.job.specs.declared.JobAnswer.{JobAnswer}
 use Rattle.job.specs.declared.JobAnswer.the-variants.{Accepted, Refused}
 
@@ -13,6 +14,7 @@ numberOf Malformed = 1
 numberOf IdentityRange = 2
 numberOf IdentityReserved = 3
 numberOf UnknownKind = 4
+numberOf PartialGroup = 25
 numberOf ToneWithText = 12
 numberOf TextMissing = 13
 numberOf TextTooLong = 14
@@ -27,6 +29,7 @@ positionOf Malformed = 0
 positionOf IdentityRange = 0
 positionOf IdentityReserved = 0
 positionOf UnknownKind = 0
+positionOf PartialGroup = 0
 positionOf ToneWithText = 0
 positionOf TextMissing = 0
 positionOf TextTooLong = 0
@@ -37,7 +40,7 @@ positionOf EmptyJob = 0
 
 -- the numbers that decline a job
 abbrev pub declinesJob : ℕ → Bool
-declinesJob n = between 1 4 n || (between 12 14 n || between 6 9 n)
+declinesJob n = between 1 4 n || (eqb n 25 || (between 12 14 n || between 6 9 n))
 
 -- the number of a job's answer; 0 for an accepted job
 abbrev pub jobNumber : JobAnswer → ℕ

@@ -1,4 +1,4 @@
-// Reads a job's page lines (document 01, "Page lines" and the table of refusals, with request R-1).
+// Reads a job's page lines (document 01, "Page lines" and the table of refusals, with requests R-1 and R-11).
 ghost use mathlib.Core.Path.{_≡_};
 ghost use mathlib.Core.Bool.{cond};
 ghost use mathlib.Core.List.{[]};
@@ -8,9 +8,10 @@ ghost use Rattle.base.specs.Hex.{isHex, bytesOf};
 ghost use Rattle.base.specs.Leading.{leading};
 ghost use Rattle.base.specs.Lines.{split};
 ghost use Rattle.job.specs.Refusal.{numberOf, positionOf, jobNumber, jobPlace, jobPosition};
-ghost use Rattle.job.specs.Line.{isPairs, headFormed, tailFormed, isReserved, longestOf, codingOf, functionOf, goodRun, tonePageOf, textPageOf, kindPageOf, pageOf, lineOf};
+ghost use Rattle.job.specs.Line.{isData, isReserved, longestOf, codingOf, functionOf, goodRun, Counted, isDigits, isPairs, headFormed, textFormed, tailFormed, tonePageOf, textPageOf, dataPageOf, kindPageOf, pageOf, lineOf};
+ghost use Rattle.job.specs.Message.{groupFrom, countFrom};
 ghost use Rattle.job.specs.Pages.{pagesOf, noPage, digitsIn};
-ghost use Rattle.base.specs.Lists.{over};
+ghost use Rattle.base.specs.Lists.{over, tab};
 ghost use Rattle.job.specs.Print.{headOf, spaced, ending, printed, printingOf, bytesPrinted};
 ghost use Rattle.job.specs.Job.{judge, tableOf, answerWith, readingOf};
 ghost use Rattle.job.specs.declared.Refusal.the-variants.{Malformed};
@@ -23,6 +24,7 @@ pub enum Refusal {
     IdentityRange,
     IdentityReserved,
     UnknownKind,
+    PartialGroup,
     ToneWithText,
     TextMissing,
     TextTooLong,
@@ -69,6 +71,7 @@ fn refusal_number(why: Refusal) -> u32
         Refusal::IdentityRange => 2,
         Refusal::IdentityReserved => 3,
         Refusal::UnknownKind => 4,
+        Refusal::PartialGroup => 25,
         Refusal::ToneWithText => 12,
         Refusal::TextMissing => 13,
         Refusal::TextTooLong => 14,
@@ -108,6 +111,7 @@ fn refusal_position(why: Refusal) -> usize
         Refusal::IdentityRange => 0,
         Refusal::IdentityReserved => 0,
         Refusal::UnknownKind => 0,
+        Refusal::PartialGroup => 0,
         Refusal::ToneWithText => 0,
         Refusal::TextMissing => 0,
         Refusal::TextTooLong => 0,
@@ -126,6 +130,17 @@ pub fn position(a: JobAnswer) -> usize
         JobAnswer::Accepted(_) => 0,
         JobAnswer::Refused { why, place: _ } => refusal_position(why),
     }
+}
+
+// Whether a text is one or more hexadecimal digits.
+fn is_digits(t: &[u8]) -> bool
+    ensures { λ r. ⌜ r ≡ isDigits (now (t .entry)) ⌝ }
+{
+    let n = t.len();
+    if n == 0 {
+        return false;
+    }
+    base::hex_run(t) == n
 }
 
 // Whether a text is one or more pairs of hexadecimal digits, of which so many at its front are known to be.
@@ -184,7 +199,7 @@ fn longest(kind: u32) -> usize
 }
 
 // How a kind's text is coded.
-pub fn coding(kind: u32) -> Coding
+fn coding(kind: u32) -> Coding
     ensures { λ r. ⌜ r ≡ codingOf kind ⌝ }
 {
     match kind {
@@ -200,15 +215,48 @@ pub fn function(kind: u32) -> u32
     match kind {
         4 => 0,
         5 => 3,
+        6 => 1,
+        7 => 2,
         _ => kind,
     }
 }
 
+// Whether a kind's text is data.
+fn is_data(kind: u32) -> bool
+    ensures { λ r. ⌜ r ≡ isData kind ⌝ }
+{
+    match kind {
+        6 | 7 => true,
+        _ => false,
+    }
+}
+
+// How many groups a text of so many digits takes.
+pub fn groups(kind: u32, length: u16) -> usize
+    ensures { λ r. ⌜ r ≡ countFrom kind length ⌝ }
+{
+    if is_data(kind) {
+        return (length / 5) as usize;
+    }
+    text::groups(coding(kind), length / 2)
+}
+
+// Fills a slice with the first groups of a text.
+pub fn write_groups(kind: u32, digits: &[u8], groups: &mut [u32])
+    ensures { λ _. ⌜ now (groups .exit) ≡ tab (groupFrom kind (now (digits .entry))) (length (now (groups .entry))) ⌝ }
+{
+    if is_data(kind) {
+        text::write_fives(digits, groups);
+        return;
+    }
+    text::write_groups(coding(kind), digits, groups);
+}
+
 // A tone, or number 12.
 fn judge_tone(page: Page, text: &[u8]) -> LineAnswer
-    ensures { λ r. ⌜ r ≡ tonePageOf page (bytesOf (now (text .entry))) ⌝ }
+    ensures { λ r. ⌜ r ≡ tonePageOf page (now (text .entry)) ⌝ }
 {
-    if text.len() / 2 == 0 {
+    if text.len() == 0 {
         LineAnswer::Good(page)
     } else {
         LineAnswer::Faulty(Refusal::ToneWithText)
@@ -238,23 +286,41 @@ fn judge_text(page: Page, text: &[u8], good: usize) -> LineAnswer
     LineAnswer::Good(page)
 }
 
+// A page of data, or the first of numbers 25, 13 and 14.
+fn judge_data(page: Page, digits: &[u8]) -> LineAnswer
+    ensures { λ r. ⌜ r ≡ dataPageOf page (now (digits .entry)) ⌝ }
+{
+    let n = digits.len();
+    if n % 5 != 0 {
+        return LineAnswer::Faulty(Refusal::PartialGroup);
+    }
+    if n == 0 {
+        return LineAnswer::Faulty(Refusal::TextMissing);
+    }
+    if 84 < n / 5 {
+        return LineAnswer::Faulty(Refusal::TextTooLong);
+    }
+    LineAnswer::Good(page)
+}
+
 // The page by its kind, or number 4 or its text's refusal.
 fn judge_kind(page: Page, text: &[u8], good: usize) -> LineAnswer
-    requires { ⌜ good ≡ goodRun (page .kind) (bytesOf (now text)) ⌝ }
-    ensures { λ r. ⌜ r ≡ kindPageOf page (bytesOf (now (text .entry))) ⌝ }
+    requires { ⌜ Counted (page .kind) (now text) good ⌝ }
+    ensures { λ r. ⌜ r ≡ kindPageOf page (now (text .entry)) ⌝ }
 {
     let kind = page.kind;
     match kind {
         0..=3 => judge_tone(page, text),
         4 | 5 => judge_text(page, text, good),
+        6 | 7 => judge_data(page, text),
         _ => LineAnswer::Faulty(Refusal::UnknownKind),
     }
 }
 
 // The page of a well-formed line, or its first refusal.
 fn judge_page(page: Page, text: &[u8], good: usize) -> LineAnswer
-    requires { ⌜ good ≡ goodRun (page .kind) (bytesOf (now text)) ⌝ }
-    ensures { λ r. ⌜ r ≡ pageOf page (bytesOf (now (text .entry))) ⌝ }
+    requires { ⌜ Counted (page .kind) (now text) good ⌝ }
+    ensures { λ r. ⌜ r ≡ pageOf page (now (text .entry)) ⌝ }
 {
     let identity = page.identity;
     if 0x1FFFFF < identity {
@@ -269,7 +335,7 @@ fn judge_page(page: Page, text: &[u8], good: usize) -> LineAnswer
 // The page of what must be pairs, or its first refusal. A text is passed over once: digits and characters together up to the first bad
 // character, and only digits behind it.
 fn judge_pairs(page: Page, text: &[u8]) -> LineAnswer
-    ensures { λ r. ⌜ r ≡ cond (isPairs (now (text .entry))) (pageOf page (bytesOf (now (text .entry)))) (Faulty Malformed) ⌝ }
+    ensures { λ r. ⌜ r ≡ cond (isPairs (now (text .entry))) (pageOf page (now (text .entry))) (Faulty Malformed) ⌝ }
 {
     let kind = page.kind;
     let good = text::char_run(coding(kind), text);
@@ -279,9 +345,23 @@ fn judge_pairs(page: Page, text: &[u8]) -> LineAnswer
     LineAnswer::Faulty(Refusal::Malformed)
 }
 
-// The page by what stands behind its kind, which must be nothing, or a space and pairs; or its first refusal.
+// The page of a text, which must be pairs, or digits where it is data; or its first refusal.
+fn judge_digits(page: Page, text: &[u8]) -> LineAnswer
+    ensures { λ r. ⌜ r ≡ cond (textFormed (page .kind) (now (text .entry))) (pageOf page (now (text .entry))) (Faulty Malformed) ⌝ }
+{
+    let kind = page.kind;
+    if !is_data(kind) {
+        return judge_pairs(page, text);
+    }
+    if !is_digits(text) {
+        return LineAnswer::Faulty(Refusal::Malformed);
+    }
+    judge_page(page, text, 0)
+}
+
+// The page by what stands behind its kind, which must be nothing, or a space and a text; or its first refusal.
 fn judge_tail(page: Page, t: &[u8]) -> LineAnswer
-    ensures { λ r. ⌜ r ≡ cond (tailFormed (now (t .entry))) (pageOf page (bytesOf (drop 1 (now (t .entry))))) (Faulty Malformed) ⌝ }
+    ensures { λ r. ⌜ r ≡ cond (tailFormed (page .kind) (now (t .entry))) (pageOf page (drop 1 (now (t .entry)))) (Faulty Malformed) ⌝ }
 {
     if t.len() == 0 {
         return judge_page(page, t, 0);
@@ -289,7 +369,7 @@ fn judge_tail(page: Page, t: &[u8]) -> LineAnswer
     if t[0] != b' ' {
         return LineAnswer::Faulty(Refusal::Malformed);
     }
-    judge_pairs(page, &t[1..])
+    judge_digits(page, &t[1..])
 }
 
 // How many digits of text a line of n bytes has, behind six digits, a space, a digit and a space.

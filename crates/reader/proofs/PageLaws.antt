@@ -12,6 +12,7 @@ use lib.Seq.{length-take-le, take-length}
 use borrow.Author.Tests.{le-ltb}
 use Rattle.base.specs.Hex.{digitsOf, pairsOf}
 use Rattle.base.specs.Lists.{over, tab}
+use Rattle.base.proofs.HexLaws.{pairs-length}
 use Rattle.base.proofs.ListLaws.{tab-same}
 use Rattle.text.specs.Coding.{widthOf}
 use Rattle.text.specs.Fives.{fives}
@@ -21,7 +22,6 @@ use Rattle.text.specs.declared.Coding.the-variants.{Numeric, Alphanumeric}
 use Rattle.text.proofs.BitLaws.{low-same, cut-bit}
 use Rattle.text.proofs.FivesBack.{fives-length}
 use Rattle.text.proofs.HeardLaws.{heard-fits}
-use Rattle.text.proofs.PairLaws.{pairs-length}
 use Rattle.job.specs.Print.{ending, printed, printingOf, bytesPrinted}
 use Rattle.job.specs.declared.Printing.{Printing}
 use Rattle.job.specs.declared.Printing.the-variants.{Printed, NoRoom}

@@ -6,12 +6,11 @@ use native.Mathlib.Numerals.{add-one}
 use native.Mathlib.Omega.{arith}
 use lib.ListN.{length, set, take, drop, replicate, length-map}
 use lib.Seq.{take-length}
-use Rattle.base.specs.Hex.{bytesOf}
 use Rattle.base.specs.Lists.{over, tab, padded}
 use Rattle.base.proofs.ListLaws.{filled, filled-turn, filled-over, over-zeros, over-behind, over-length, tab-length, tab-at, tab-same}
 use Rattle.codeword.specs.Code.{codeword, messageBits}
-use Rattle.text.specs.Coding.{groupOf, groupsOf, groupsIn}
-use Rattle.job.specs.Line.{codingOf}
+use Rattle.job.specs.Message.{groupFrom, countFrom, groupsFrom}
+use Rattle.job.proofs.Message.{from-count}
 use Rattle.transmission.specs.Sending.{Sending, noSending, sendingFrom, sendingAt, framesOf, countsOf, AllAllowed}
 use Rattle.transmission.specs.Transmission.{addressOf, messageOf}
 use Rattle.transmission.proofs.Sendings.{frame-at, words-at, pages-are, sendable}
@@ -38,14 +37,12 @@ laid-none xs old = record { at-is = refl; addresses-are = refl; starts-are = ref
 
 -- the codewords of a text's groups are the message of its sending
 pub message-is : (identity kind : ℕ) (digits : List ℕ) (n : ℕ) → n ≡ length (sendingFrom identity kind digits .groups)
-    → tab (λ g. codeword (messageBits (groupOf (codingOf kind) (bytesOf digits) g))) n ≡ messagesOf (sendingFrom identity kind digits)
-unfolding groupsIn
+    → tab (λ g. codeword (messageBits (groupFrom kind digits g))) n ≡ messagesOf (sendingFrom identity kind digits)
+unfolding groupsFrom
 message-is identity kind digits n e =
-    let coding = codingOf kind in
-    let bytes = bytesOf digits in
-    let count = groupsOf coding (length bytes) in
-    tab-same (λ g. codeword (messageBits (groupOf coding bytes g))) (messageOf (sendingFrom identity kind digits)) n
-    (λ g h. ap (λ (x : ℕ). codeword (messageBits x)) (sym (tab-at (groupOf coding bytes) count g 0 (omega (arith, tab-length (groupOf coding bytes) count)))))
+    let count = countFrom kind (length digits) in
+    tab-same (λ g. codeword (messageBits (groupFrom kind digits g))) (messageOf (sendingFrom identity kind digits)) n
+    (λ g h. ap (λ (x : ℕ). codeword (messageBits x)) (sym (tab-at (groupFrom kind digits) count g 0 (omega (arith, from-count kind digits)))))
     ∙ ap (tab (messageOf (sendingFrom identity kind digits))) e
 
 module _ (xs : List Sending) (a : AllAllowed xs) (old : List ℕ) (room : length old ≡ 4032) where

@@ -5,11 +5,10 @@ ghost use mathlib.Core.List.{List};
 ghost use Prim.Native.Nat.{ℕ, _+_, _≤_};
 ghost use lib.Dec.{eqb, leb, ltb};
 ghost use lib.ListN.{length, getD};
-ghost use Rattle.base.specs.Hex.{bytesOf};
 ghost use Rattle.base.specs.Lists.{over, tab};
 ghost use Rattle.base.specs.Search.{least};
 ghost use Rattle.codeword.specs.Code.{codeword, messageBits};
-ghost use Rattle.text.specs.Coding.{groupOf};
+ghost use Rattle.job.specs.Message.{groupFrom};
 ghost use Rattle.job.specs.Job.{jobOf, readingOf};
 ghost use Rattle.placement.specs.Placement.{mayStart};
 ghost use Rattle.transmission.specs.Sending.{sendingsOf};
@@ -18,7 +17,6 @@ ghost use Rattle.sender.specs.Plan.{Joined, tableOf, said, unmarked, Pla
 ghost use Rattle.sender.specs.Start.{wordsOf, pagesFrom, cursorAt, noPages, openingOf, wordsBy, startedOf};
 use codeword::Codeword;
 use job::JobAnswer;
-use text::Coding;
 
 // Where the transmission stands. A flag is set where it is not 0.
 #[repr(C)]
@@ -484,12 +482,12 @@ pub fn step_owned(state: Sender) -> Stepped
 // ---- the start
 
 // The message codewords of a text's first n groups, over the front of a slice.
-fn write_message(coding: Coding, text: &[u8], n: u16, out: &mut [u32])
+fn write_message(kind: u32, text: &[u8], n: u16, out: &mut [u32])
     requires { ⌜ n ≤ length (now out) ⌝ }
-    ensures { λ r. ⌜ now (out .exit) ≡ over (now (out .entry)) (tab (λ g. codeword (messageBits (groupOf coding (bytesOf (now (text .entry))) g))) n) ⌝ }
+    ensures { λ r. ⌜ now (out .exit) ≡ over (now (out .entry)) (tab (λ g. codeword (messageBits (groupFrom kind (now (text .entry)) g))) n) ⌝ }
 {
     let count = n as usize;
-    text::write_groups(coding, text, &mut out[..count]);
+    job::write_groups(kind, text, &mut out[..count]);
     let mut i = 0;
     while i < count {
         out[i] = Codeword::message(out[i]).word();
@@ -514,14 +512,13 @@ fn lay_out(job: &[u8], read: job::Pages, n: usize, words: &mut [u32]) -> PageTab
         let page = read.pages[i];
         let identity = page.identity;
         let kind = page.kind;
-        let coding = job::coding(kind);
-        let groups = text::groups(coding, (page.length / 2) as u16);
+        let groups = job::groups(kind, page.length as u16);
         addresses[i] = Codeword::address(identity, job::function(kind)).word();
         starts[i] = at as u16;
         lengths[i] = groups as u16;
         frames[i] = (identity % 8) as u8;
         let text = job::page_text(job, page);
-        write_message(coding, text, groups as u16, &mut words[at..]);
+        write_message(kind, text, groups as u16, &mut words[at..]);
         at += groups;
         i += 1;
     }

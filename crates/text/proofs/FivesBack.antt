@@ -12,7 +12,7 @@ use Rattle.base.specs.Leading.{leading}
 use Rattle.base.specs.Lists.{tab, Begins}
 use Rattle.base.proofs.HexLaws.{number-lt, digits-length, number-digits}
 use Rattle.base.proofs.LeadingLaws.{leading-cons}
-use Rattle.base.proofs.ListLaws.{tab-length, tab-at, tab-same, tab-take}
+use Rattle.base.proofs.ListLaws.{tab-length, tab-at, tab-same}
 use Rattle.base.proofs.SearchLaws.{le-or-lt}
 use Rattle.text.specs.Fives.{fiveAt, fivesIn, fives, FivesBack}
 
@@ -67,11 +67,6 @@ some-back (suc r) ds l h =
     let z : 5 * suc r ≡ 5 + 5 * r = omega arith in
     ap₂ _++_ first (ap fives shift ∙ some-back r (drop 5 ds) (omega (arith, length-drop 5 ds)) (rest-hex 5 ds h))
     ∙ rw (z, take-add 5 (5 * r) ds)
-
--- the first r groups are the first 5 r digits
-pub fives-front : (r : ℕ) (ds : List ℕ) → 5 * r ≤ length ds → length ds ≤ leading isHex ds → fives (take r (fivesIn ds)) ≡ take (5 * r) ds
-unfolding fivesIn
-fives-front r ds l h = ap fives (tab-take (fiveAt ds) (length ds / 5) r (omega arith)) ∙ some-back r ds l h
 
 -- all of them
 pub fives-back : FivesBack

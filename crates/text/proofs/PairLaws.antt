@@ -8,15 +8,11 @@ use lib.ListN.{length, set, take, length-set, length-append}
 use lib.Seq.{take-suc, length-take-le}
 use Rattle.base.specs.Hex.{digitOf, pairsOf}
 use Rattle.base.specs.Lists.{over}
+use Rattle.base.proofs.HexLaws.{pairs-length}
 use Rattle.base.proofs.ListLaws.{over-byte, tab-length, tab-at}
 use Rattle.text.specs.Heard.{charHeard, wholeIn, charsIn, heardText}
 use Rattle.text.specs.declared.Coding.{Coding}
 use Rattle.text.proofs.HeardLaws.{heard-front}
-
-pub pairs-length : (s : List ℕ) → length (pairsOf s) ≡ 2 * length s
-unfolding pairsOf
-pairs-length [] = refl
-pairs-length (b ∷ s) = omega (arith, pairs-length s)
 
 pairs-end : (s : List ℕ) (b : ℕ) → pairsOf (s ++ (b ∷ [])) ≡ (pairsOf s ++ (digitOf (b / 16) ∷ [])) ++ (digitOf (b % 16) ∷ [])
 unfolding pairsOf

@@ -8,11 +8,10 @@ use native.Mathlib.Omega.{arith}
 use native.Mathlib.Numerals.{add-one}
 use lib.ListN.{length, getD, set, length-set}
 use lib.Seq.{getD-set-same, getD-set-other}
-use Rattle.base.specs.Hex.{bytesOf}
 use Rattle.base.specs.Lists.{tab}
-use Rattle.text.specs.Coding.{groupOf, groupsIn}
-use Rattle.text.proofs.GroupLaws.{groups-length}
-use Rattle.job.specs.Line.{codingOf, functionOf}
+use Rattle.job.specs.Line.{functionOf}
+use Rattle.job.specs.Message.{groupFrom, groupsFrom}
+use Rattle.job.proofs.Message.{from-count}
 use Rattle.transmission.specs.Sending.{Sending, sendingFrom}
 use Rattle.transmission.specs.Transmission.{addressOf, messageOf}
 use Rattle.transmission.specs.Transmitted.{slotIndex}
@@ -61,6 +60,6 @@ module _ (x : Sending) (s : ℕ) (words : List ℕ) where
 
 -- a page's sending, where its text's groups are told by index
 pub packed-sending : (identity kind : ℕ) (digits : List ℕ) (n : ℕ) {f : ℕ} {gs : List ℕ} → n ≡ length (sendingFrom identity kind digits .groups)
-    → f ≡ functionOf kind → gs ≡ tab (groupOf (codingOf kind) (bytesOf digits)) n → _≡_ {A = Sending} (record { identity = identity; function = f; groups = gs }) (sendingFrom identity kind digits)
-unfolding groupsIn
-packed-sending identity kind digits n e p q = rw (p, q, e, groups-length (codingOf kind) (bytesOf digits))
+    → f ≡ functionOf kind → gs ≡ tab (groupFrom kind digits) n → _≡_ {A = Sending} (record { identity = identity; function = f; groups = gs }) (sendingFrom identity kind digits)
+unfolding groupsFrom
+packed-sending identity kind digits n e p q = rw (p, q, e, from-count kind digits)

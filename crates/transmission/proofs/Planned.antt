@@ -1,21 +1,17 @@
 -- What the pages that were read from an accepted job, and a plan of its sendings, say of page i. Assumes nothing.
-use Prim.Native.Nat.{ℕ, _+_, _*_, _/_, _%_, _≤_, _<_}
+use Prim.Native.Nat.{ℕ, _+_, _*_, _%_, _≤_, _<_}
 use mathlib.Core.Path.{_≡_, sym, ap, _∙_}
 use mathlib.Core.List.{List}
 use native.Mathlib.Numerals.{add-one}
 use native.Mathlib.Omega.{arith}
 use lib.ListN.{length, getD, length-map}
-use Rattle.base.specs.Hex.{bytesOf}
-use Rattle.base.specs.Lines.{split, lineAt}
-use Rattle.base.proofs.HexLaws.{bytes-length}
-use Rattle.text.specs.Coding.{groupsOf}
-use Rattle.text.proofs.GroupLaws.{groups-length}
-use Rattle.job.specs.Line.{codingOf, kindOf, textPairs}
+use Rattle.job.specs.Message.{countFrom}
 use Rattle.job.specs.Pages.{noPage, pageAt, digitsAt}
 use Rattle.job.specs.Job.{jobOf, readingOf}
 use Rattle.job.specs.declared.JobAnswer.the-variants.{Accepted}
 use Rattle.job.specs.declared.Pages.{Pages}
-use Rattle.job.proofs.Accepted.{longest-few, accepted-job}
+use Rattle.job.proofs.Accepted.{accepted-job}
+use Rattle.job.proofs.Message.{from-count}
 use Rattle.placement.specs.Placement.{slotOf}
 use Rattle.transmission.specs.Sending.{Sending, sendingOf, sendingsOf, sendingAt, framesOf, countsOf, placementOf}
 use Rattle.transmission.specs.Transmitted.{slotIndex}
@@ -32,20 +28,19 @@ module _ (s : List ℕ) (n : ℕ) (ok : jobOf s ≡ Accepted n) {read : Pages} (
   pub frame-is : getD (read .pages) i noPage .identity % 8 ≡ getD (framesOf (sendingsOf s)) i 0
   frame-is = ap (λ (x : Sending). x .identity % 8) page-sending ∙ sym (frame-at (sendingsOf s) i)
 
-  -- how many characters and groups its text has
-  pub few-characters : getD (read .pages) i noPage .length / 2 ≤ 240
-  few-characters =
+  -- how many digits and groups its text has
+  pub few-digits : getD (read .pages) i noPage .length ≤ 480
+  few-digits =
       let a = accepted-job s n ok in
       let p = a .page i h in
-      let l = lineAt i (split s) in
-      rw (e, p .read, p .length-is, p .digits-are) (omega (arith, a .sound i h .most, longest-few (kindOf l), bytes-length (textPairs l)))
+      rw (e, p .read, p .length-is, p .digits-are) (a .sound i h .short)
 
-  pub groups-are : groupsOf (codingOf (getD (read .pages) i noPage .kind)) (getD (read .pages) i noPage .length / 2) ≡ length (sendingAt (sendingsOf s) i .groups)
+  pub groups-are : countFrom (getD (read .pages) i noPage .kind) (getD (read .pages) i noPage .length) ≡ length (sendingAt (sendingsOf s) i .groups)
   groups-are =
       let p = accepted-job s n ok .page i h in
-      rw (e, p .read, p .length-is, sending-at s i, ← bytes-length (digitsAt s i)) (sym (groups-length (codingOf (pageAt s i .kind)) (bytesOf (digitsAt s i))))
+      rw (e, p .read, p .length-is, sending-at s i) (sym (from-count (pageAt s i .kind) (digitsAt s i)))
 
-  pub count-is : groupsOf (codingOf (getD (read .pages) i noPage .kind)) (getD (read .pages) i noPage .length / 2) ≡ getD (countsOf (sendingsOf s)) i 0
+  pub count-is : countFrom (getD (read .pages) i noPage .kind) (getD (read .pages) i noPage .length) ≡ getD (countsOf (sendingsOf s)) i 0
   count-is = groups-are ∙ sym (words-at (sendingsOf s) i)
 
 -- ---- page i by the plan

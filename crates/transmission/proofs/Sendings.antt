@@ -5,16 +5,15 @@ use mathlib.Core.Path.{_≡_, sym, _∙_}
 use mathlib.Core.List.{List}
 use native.Mathlib.Omega.{arith}
 use lib.ListN.{length, length-map, List·getD-map}
-use Rattle.base.specs.Hex.{bytesOf}
 use Rattle.base.specs.Search.{sum}
 use Rattle.base.specs.Lists.{tab}
-use Rattle.text.specs.Coding.{groupsIn}
-use Rattle.text.proofs.GroupLaws.{groups-length, groups-small}
-use Rattle.job.specs.Line.{codingOf, functionOf}
+use Rattle.job.specs.Line.{isData, codingOf, functionOf}
+use Rattle.job.specs.Message.{countFrom, groupsFrom}
 use Rattle.job.specs.Pages.{pagesOf, noPage, pageAt, digitsAt}
 use Rattle.job.specs.Job.{jobOf}
 use Rattle.job.specs.declared.JobAnswer.the-variants.{Accepted}
 use Rattle.job.proofs.Accepted.{accepted-job}
+use Rattle.job.proofs.Message.{from-count, from-small}
 use Rattle.placement.specs.Promise.{Placed, Limits}
 use Rattle.placement.proofs.Sendable.{Sendable}
 use Rattle.placement.proofs.Placed.{placed, limits}
@@ -28,7 +27,7 @@ sendings-length s = length-map (pagesOf s) (sendingOf s)
 
 -- the sending at an index is that of the page there
 pub sending-at : (s : List ℕ) (i : ℕ) → sendingAt (sendingsOf s) i ≡ sendingOf s (pageAt s i)
-unfolding sendingsOf functionOf codingOf groupsIn tab
+unfolding sendingsOf functionOf groupsFrom countFrom isData codingOf tab
 sending-at s i = List·getD-map (sendingOf s) (pagesOf s) i noPage
 
 pub frame-at : (xs : List Sending) (i : ℕ) → placementOf xs .frame i ≡ sendingAt xs i .identity % 8
@@ -88,8 +87,8 @@ module _ (s : List ℕ) (n : ℕ) (ok : jobOf s ≡ Accepted n) where
         in-range = rw (p .identity-is) (omega (arith, l .in-range));
         free = rw (p .identity-is) (l .free);
         two-bits = rw (p .kind-is) (l .function);
-        brief = rw (groups-length, p .kind-is, p .digits-are) (l .brief);
-        small = groups-small (codingOf (pageAt s i .kind)) (bytesOf (digitsAt s i));
+        brief = rw (from-count (pageAt s i .kind) (digitsAt s i), p .kind-is, p .digits-are) (l .brief);
+        small = from-small (pageAt s i .kind) (digitsAt s i);
       }
 
   pub accepted-sendings : AllAllowed (sendingsOf s)

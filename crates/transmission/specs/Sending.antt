@@ -5,9 +5,8 @@ use mathlib.Core.Path.{_≡_}
 use mathlib.Core.Bool.{false}
 use mathlib.Core.List.{List, [], map}
 use lib.ListN.{length, getD}
-use Rattle.base.specs.Hex.{bytesOf}
-use Rattle.text.specs.Coding.{groupsIn}
-use Rattle.job.specs.Line.{isReserved, codingOf, functionOf}
+use Rattle.job.specs.Line.{isReserved, functionOf}
+use Rattle.job.specs.Message.{groupsFrom}
 use Rattle.job.specs.Pages.{pagesOf, digitsIn}
 use Rattle.job.specs.declared.Page.{Page}
 use Rattle.placement.specs.Placement as placement
@@ -21,7 +20,7 @@ pub record Sending : Type 0 where
 
 -- what an identity, a kind and the digits of a text are sent as
 abbrev pub sendingFrom : ℕ → ℕ → List ℕ → Sending
-sendingFrom identity kind digits = record { identity = identity; function = functionOf kind; groups = groupsIn (codingOf kind) (bytesOf digits) }
+sendingFrom identity kind digits = record { identity = identity; function = functionOf kind; groups = groupsFrom kind digits }
 
 -- a page of a job as it is sent
 abbrev pub sendingOf : List ℕ → Page → Sending

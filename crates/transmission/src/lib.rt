@@ -140,7 +140,7 @@ fn write_packed(
     requires { ⌜ slotIndex (slot + length (now groups)) < length (now words) ⌝ }
     ensures { λ _. ⌜ now (words .exit) ≡ withSending (sendingFrom identity kind (now (text .entry))) slot (now (words .entry)) ⌝ }
 {
-    text::write_groups(job::coding(kind), text, groups);
+    job::write_groups(kind, text, groups);
     write_sending(identity, job::function(kind), groups, slot, words);
 }
 
@@ -214,7 +214,7 @@ fn send_pages(job: &[u8], read: Pages, n: usize, words: &mut [u32], slots: &mut 
     while k < n {
         let page = read.pages[k];
         frames[k] = (page.identity % 8) as u8;
-        groups[k] = text::groups(job::coding(page.kind), (page.length / 2) as u16) as u32;
+        groups[k] = job::groups(page.kind, page.length as u16) as u32;
         k += 1;
     }
     let mut places = [0u32; 48];

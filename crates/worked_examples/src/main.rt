@@ -71,12 +71,12 @@ fn word(engine: Engine, line: &[u8]) {
     print_correction(codeword::correct_by(engine, number_in(line, 2, 10)));
 }
 
-// Numeric for the digit 4, otherwise alphanumeric.
-fn coding_at(line: &[u8], at: usize) -> Coding {
+// The kind that the digit at an index writes; 0 where there is none.
+fn kind_at(line: &[u8], at: usize) -> u32 {
     if at < line.len() {
-        return job::coding(base::hex_value(line[at]));
+        return base::hex_value(line[at]) as u32;
     }
-    Coding::Alphanumeric
+    0
 }
 
 // `T 000009 4 3132`: the groups of the text of a page line, the first eight of them.
@@ -84,11 +84,11 @@ fn groups(line: &[u8]) {
     if line.len() < 11 {
         return;
     }
-    let coding = coding_at(line, 9);
-    let pairs = &line[11..];
-    let n = text::groups(coding, (pairs.len() / 2 % 65536) as u16);
+    let kind = kind_at(line, 9);
+    let digits = &line[11..];
+    let n = job::groups(kind, (digits.len() % 65536) as u16);
     let mut first = [0u32; 8];
-    text::write_groups(coding, pairs, &mut first);
+    job::write_groups(kind, digits, &mut first);
     let mut g = 0;
     while g < 8 {
         if g < n {
@@ -98,12 +98,14 @@ fn groups(line: &[u8]) {
     }
 }
 
-// `H 4 84333 00000`: the text that two groups say, between bars.
+// `H 4 84333 00000`: the text that two groups say, numeric for the digit 4 and otherwise alphanumeric, between bars.
 fn heard(line: &[u8]) {
-    let coding = coding_at(line, 2);
     let groups = [number_in(line, 4, 9), number_in(line, 10, 15)];
     print(b" |");
-    print_heard(coding, &groups);
+    match kind_at(line, 2) {
+        4 => print_heard(Coding::Numeric, &groups),
+        _ => print_heard(Coding::Alphanumeric, &groups),
+    }
     print(b"|");
 }
 

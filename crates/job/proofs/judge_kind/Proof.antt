@@ -2,6 +2,7 @@
 use native.Mathlib.Omega.{arith}
 use borrow.Author.Tests.{le-leb, lt-leb}
 use Rattle.job.specs.Line.{kindPageOf}
+use Rattle.job.proofs.Message.{is-data, no-data, over-data}
 use borrow.Author.Needs.{needs}
 use Rattle.job.proofs.judge_kind.Statement.{statement}
 use Rattle.job.proofs.judge_kind.Tie as tie
@@ -10,7 +11,10 @@ judge-tone-requires : tie.Need-judge-tone-requires
 judge-tone-requires c κs = search needs
 
 judge-text-requires : tie.Need-judge-text-requires
-judge-text-requires c κs = search needs
+judge-text-requires c κs = c .before .before .before .pre (no-data (c .before .before .before .args .page .kind) (omega arith))
+
+judge-data-requires : tie.Need-judge-data-requires
+judge-data-requires c κs = search needs
 
 returns : tie.Need-returns
 unfolding kindPageOf
@@ -27,9 +31,14 @@ returns-2 c =
 returns-3 : tie.Need-returns-3
 unfolding kindPageOf
 returns-3 c =
-    let k = c .before .before .before .args .page .kind in
-    simp (le-leb 0 k (omega arith), lt-leb k 3 (omega arith), le-leb 4 k (omega arith), lt-leb k 5 (omega arith))
+    let k = c .before .before .before .before .before .args .page .kind in
+    rw (c .judge-data .ensures) (simp (le-leb 0 k (omega arith), lt-leb k 3 (omega arith), le-leb 4 k (omega arith), lt-leb k 5 (omega arith), is-data k (omega arith) (omega arith)))
+
+returns-4 : tie.Need-returns-4
+unfolding kindPageOf
+returns-4 c =
+    let k = c .before .before .before .before .args .page .kind in
+    simp (le-leb 0 k (omega arith), lt-leb k 3 (omega arith), le-leb 4 k (omega arith), lt-leb k 5 (omega arith), over-data k (omega arith))
 
 pub judge-kind-spec : {M : Type 1} → statement M
-judge-kind-spec =
-    tie.close (tie.spec judge-tone-requires judge-text-requires returns returns-2 returns-3)
+judge-kind-spec = tie.close (tie.spec judge-tone-requires judge-text-requires judge-data-requires returns returns-2 returns-3 returns-4)

@@ -25,7 +25,7 @@ is-pairs-requires : tie.Need-is-pairs-requires
 is-pairs-requires c κs = let a = c .before .before .before .args in omega (arith, found c, run-digits (codingOf (a .page .kind)) (now (a .text)))
 
 judge-page-requires : tie.Need-judge-page-requires
-judge-page-requires c κs =
+judge-page-requires c κs = λ _.
     let a = c .before .before .before .before .before .args in
     found (c .before .before) ∙ pairs-run (now (a .text)) (a .page .kind) (sym (c .before .is-pairs .ensures) ∙ c .if1 .taken)
 

@@ -13,7 +13,7 @@ use Rattle.job.proofs.judge_tail.Statement.{statement}
 use Rattle.job.proofs.judge_tail.Tie as tie
 
 judge-page-requires : tie.Need-judge-page-requires
-judge-page-requires c κs = let a = c .before .before .args in empty-run (now (a .t)) (a .page .kind) (c .if1 .taken)
+judge-page-requires c κs = λ _. let a = c .before .before .args in empty-run (now (a .t)) (a .page .kind) (c .if1 .taken)
 
 returns : tie.Need-returns
 unfolding tailFormed
@@ -28,21 +28,21 @@ returns-2 : tie.Need-returns-2
 unfolding tailFormed
 returns-2 c = simp (ne-eqb _ _ (c .before .before .if1 .left), ne-eqb _ _ (c .if2 .taken))
 
-sub-judge-pairs : tie.Need-sub-judge-pairs
-sub-judge-pairs c = search needs
+sub-judge-digits : tie.Need-sub-judge-digits
+sub-judge-digits c = search needs
 
-part-judge-pairs-start : tie.Need-part-judge-pairs-start
-part-judge-pairs-start c = search needs
+part-judge-digits-start : tie.Need-part-judge-digits-start
+part-judge-digits-start c = search needs
 
-part-judge-pairs-end : tie.Need-part-judge-pairs-end
-part-judge-pairs-end c = search needs
+part-judge-digits-end : tie.Need-part-judge-digits-end
+part-judge-digits-end c = search needs
 
-judge-pairs-requires : tie.Need-judge-pairs-requires
-judge-pairs-requires c κs = search needs
+judge-digits-requires : tie.Need-judge-digits-requires
+judge-digits-requires c κs = search needs
 
 returns-3 : tie.Need-returns-3
 unfolding tailFormed
-returns-3 c = rw (c .judge-pairs .ensures, to-end 1 (now (c .before .before .before .before .before .before .args .t)))
+returns-3 c = rw (c .judge-digits .ensures, to-end 1 (now (c .before .before .before .before .before .before .args .t)))
     (simp (ne-eqb _ _ (c .before .before .before .before .if1 .left), eq-eqb _ _ (c .before .before .if2 .left)))
 
 pub judge-tail-spec : {M : Type 1} → statement M
@@ -53,8 +53,8 @@ judge-tail-spec =
     returns
     shared-slice-read-if2
     returns-2
-    sub-judge-pairs
-    part-judge-pairs-start
-    part-judge-pairs-end
-    judge-pairs-requires
+    sub-judge-digits
+    part-judge-digits-start
+    part-judge-digits-end
+    judge-digits-requires
     returns-3)

@@ -5,16 +5,14 @@ use mathlib.Core.List.{List}
 use native.Mathlib.Omega.{arith}
 use lib.ListN.{length, getD, take, drop, length-drop}
 use denote.Ref.{now}
-use Rattle.base.specs.Hex.{bytesOf}
 use Rattle.base.specs.Lists.{over, tab}
 use Rattle.base.proofs.ListLaws.{to-end}
 use Rattle.codeword.specs.Code.{codeword, addressBits, messageBits}
-use Rattle.text.specs.Coding.{groupOf, groupsOf}
-use Rattle.text.specs.declared.Coding.{Coding}
+use Rattle.job.specs.Message.{groupFrom}
 use Rattle.job.specs.Pages.{noPage, digitsIn}
 use Rattle.transmission.specs.Sending.{Sending, sendingsOf, sendingAt}
 use Rattle.transmission.proofs.Sendings.{sendings-count, accepted-sendings}
-use Rattle.transmission.proofs.Planned.{page-sending, few-characters, groups-are}
+use Rattle.transmission.proofs.Planned.{page-sending, few-digits, groups-are}
 use Rattle.sender.proofs.Laid.{Laid, laid-none, message-is, laid-at, laid-room, laid-fits, laid-more, laid-pages, laid-words}
 use borrow.Author.Needs.{needs}
 use Rattle.sender.proofs.lay_out.Statement.{statement}
@@ -27,12 +25,11 @@ abbrev μ-loop : tie.MeasureT-loop
 μ-loop job n words₀ read addresses₀ starts₀ lengths₀ frames₀ at₀ i₀ words addresses starts lengths frames at i = n - i
 
 -- the number of groups of page i
-counted : (c : tie.After-groups Inv-loop μ-loop) → c .groups .result ≡ length (sendingAt (sendingsOf (now (c .before .before .before .before .before .before .before .before .args .job))) (c .before .before .before .before .before .loop .i) .groups)
+counted : (c : tie.After-groups Inv-loop μ-loop) → c .groups .result ≡ length (sendingAt (sendingsOf (now (c .before .before .before .before .before .before .before .args .job))) (c .before .before .before .before .loop .i) .groups)
 counted c =
-    let b = c .before .before .before .before .before .before .before .before in
-    let i = c .before .before .before .before .before .loop .i in
+    let b = c .before .before .before .before .before .before .before in
+    let i = c .before .before .before .before .loop .i in
     c .groups .ensures
-    ∙ ap (λ (z : Coding). groupsOf z (getD (b .args .t2 .pages) i noPage .length / 2)) (c .before .before .coding .ensures)
     ∙ groups-are (now (b .args .job)) (b .args .n) (b .pre .0 .1) (b .pre .0 .0) i (omega arith)
 
 loop-holds : tie.Need-loop-holds Inv-loop μ-loop
@@ -47,13 +44,10 @@ mul-page c = search needs
 element-copy-out-page : tie.Need-element-copy-out-page Inv-loop μ-loop
 element-copy-out-page c = search needs
 
-coding-requires : tie.Need-coding-requires Inv-loop μ-loop
-coding-requires c κs = search needs
-
 cast-groups : tie.Need-cast-groups Inv-loop μ-loop
 cast-groups c =
-    let b = c .before .before .before .before .before .before .before in
-    record { fits = omega (arith, few-characters (now (b .args .job)) (b .args .n) (b .pre .0 .1) (b .pre .0 .0) (c .before .before .before .before .loop .i) (omega arith)) }
+    let b = c .before .before .before .before .before .before in
+    record { fits = omega (arith, few-digits (now (b .args .job)) (b .args .n) (b .pre .0 .1) (b .pre .0 .0) (c .before .before .before .loop .i) (omega arith)) }
 
 groups-requires : tie.Need-groups-requires Inv-loop μ-loop
 groups-requires c κs = search needs
@@ -84,11 +78,11 @@ array-write-starts c = search needs
 
 cast-lengths : tie.Need-cast-lengths Inv-loop μ-loop
 cast-lengths c =
-    let b = c .before .before .before .before .before .before .before .before .before .before .before in
-    let l = c .before .before .before .before .before .before .before .before .loop in
+    let b = c .before .before .before .before .before .before .before .before .before .before in
+    let l = c .before .before .before .before .before .before .before .loop in
     let s = now (b .args .job) in
     let ok = b .pre .0 .1 in
-    let h = c .before .before .before .before .before .before .before .loop-test .taken in
+    let h = c .before .before .before .before .before .before .loop-test .taken in
     let e = counted (c .before .before .before) in
     let all = sendings-count s (b .args .n) ok in
     let a = accepted-sendings s (b .args .n) ok in
@@ -111,11 +105,11 @@ page-text-requires c κs = search needs
 
 cast-write-message : tie.Need-cast-write-message Inv-loop μ-loop
 cast-write-message c =
-    let b = c .before .before .before .before .before .before .before .before .before .before .before .before in
-    let l = c .before .before .before .before .before .before .before .before .before .loop in
+    let b = c .before .before .before .before .before .before .before .before .before .before .before in
+    let l = c .before .before .before .before .before .before .before .before .loop in
     let s = now (b .args .job) in
     let ok = b .pre .0 .1 in
-    let h = c .before .before .before .before .before .before .before .before .loop-test .taken in
+    let h = c .before .before .before .before .before .before .before .loop-test .taken in
     let e = counted (c .before .before .before .before) in
     let all = sendings-count s (b .args .n) ok in
     let a = accepted-sendings s (b .args .n) ok in
@@ -135,11 +129,11 @@ part-write-message-end c = search needs
 
 write-message-requires : tie.Need-write-message-requires Inv-loop μ-loop
 write-message-requires c κs =
-    let b = c .before .before .before .before .before .before .before .before .before .before .before .before .before in
-    let l = c .before .before .before .before .before .before .before .before .before .before .loop in
+    let b = c .before .before .before .before .before .before .before .before .before .before .before .before in
+    let l = c .before .before .before .before .before .before .before .before .before .loop in
     let s = now (b .args .job) in
     let ok = b .pre .0 .1 in
-    let h = c .before .before .before .before .before .before .before .before .before .loop-test .taken in
+    let h = c .before .before .before .before .before .before .before .before .loop-test .taken in
     let e = counted (c .before .before .before .before .before) in
     let all = sendings-count s (b .args .n) ok in
     let a = accepted-sendings s (b .args .n) ok in
@@ -148,11 +142,11 @@ write-message-requires c κs =
 
 add-at : tie.Need-add-at Inv-loop μ-loop
 add-at c =
-    let b = c .before .before .before .before .before .before .before .before .before .before .before .before .before .before .before .before in
-    let l = c .before .before .before .before .before .before .before .before .before .before .before .before .before .loop in
+    let b = c .before .before .before .before .before .before .before .before .before .before .before .before .before .before .before in
+    let l = c .before .before .before .before .before .before .before .before .before .before .before .before .loop in
     let s = now (b .args .job) in
     let ok = b .pre .0 .1 in
-    let h = c .before .before .before .before .before .before .before .before .before .before .before .before .loop-test .taken in
+    let h = c .before .before .before .before .before .before .before .before .before .before .before .loop-test .taken in
     let e = counted (c .before .before .before .before .before .before .before .before) in
     let all = sendings-count s (b .args .n) ok in
     let a = accepted-sendings s (b .args .n) ok in
@@ -167,11 +161,11 @@ loop-less c = search needs
 
 loop-again : tie.Need-loop-again Inv-loop μ-loop
 loop-again c =
-    let b = c .before .before .before .before .before .before .before .before .before .before .before .before .before .before .before .before in
-    let l = c .before .before .before .before .before .before .before .before .before .before .before .before .before .loop in
+    let b = c .before .before .before .before .before .before .before .before .before .before .before .before .before .before .before in
+    let l = c .before .before .before .before .before .before .before .before .before .before .before .before .loop in
     let s = now (b .args .job) in
     let ok = b .pre .0 .1 in
-    let h = c .before .before .before .before .before .before .before .before .before .before .before .before .loop-test .taken in
+    let h = c .before .before .before .before .before .before .before .before .before .before .before .loop-test .taken in
     let e = counted (c .before .before .before .before .before .before .before .before) in
     let all = sendings-count s (b .args .n) ok in
     let a = accepted-sendings s (b .args .n) ok in
@@ -185,8 +179,7 @@ loop-again c =
     let rest = take (length (l .words) - l .at) (drop (l .at) (l .words)) in
     let part =
     c .before .before .write-message .ensures
-    ∙ ap (λ (t : List ℕ). over rest (tab (λ g. codeword (messageBits (groupOf (c .before .before .before .before .before .before .before .before .before .before .coding .result) (bytesOf t) g))) groups)) (c .before .before .before .before .page-text .ensures)
-    ∙ ap (λ (z : Coding). over rest (tab (λ g. codeword (messageBits (groupOf z (bytesOf digits) g))) groups)) (c .before .before .before .before .before .before .before .before .before .before .coding .ensures)
+    ∙ ap (λ (t : List ℕ). over rest (tab (λ g. codeword (messageBits (groupFrom kind t g))) groups)) (c .before .before .before .before .page-text .ensures)
     ∙ ap (over rest) (message-is identity kind digits groups (e ∙ sym (ap (λ (y : Sending). length (y .groups)) x))) in
     let next =
     laid-more (sendingsOf s) a old (b .pre .1) (l .i) (l .at) (l .inv .4) (omega arith) x
@@ -227,7 +220,6 @@ lay-out-spec =
     loop-holds
     mul-page
     element-copy-out-page
-    coding-requires
     cast-groups
     groups-requires
     function-requires

@@ -8,10 +8,9 @@ use native.Mathlib.Nat.{not-suc-le-zero, le-of-suc-le-suc}
 use lib.ListN.{length, getD, take, drop, length-set, List·getD-append}
 use lib.Seq.{length-take-le, drop-at}
 use Rattle.base.specs.Lists.{over, tab}
-use Rattle.base.specs.Hex.{bytesOf}
 use Rattle.base.proofs.ListLaws.{filled, filled-turn, filled-over, over-length, tab-length, tab-at, tab-same}
 use Rattle.codeword.specs.Code.{codeword, messageBits}
-use Rattle.text.specs.Coding.{groupOf}
+use Rattle.job.specs.Message.{groupFrom}
 use borrow.Author.Needs.{needs}
 use Rattle.sender.proofs.write_message.Statement.{statement}
 use Rattle.sender.proofs.write_message.Tie as tie
@@ -45,10 +44,10 @@ replaced f n old {out} e =
     rw (new, tab-length (λ k. codeword (messageBits (f k))) n, rest)
 
 abbrev Inv-loop : tie.InvT-loop
-Inv-loop text n out₀ count i₀ out i = (i ≤ n) × (n ≤ length out₀) × (length out ≡ length out₀) × (out ≡ filled out₀ (coded out₀ n) i)
+Inv-loop kind text n out₀ count i₀ out i = (i ≤ n) × (n ≤ length out₀) × (length out ≡ length out₀) × (out ≡ filled out₀ (coded out₀ n) i)
 
 abbrev μ-loop : tie.MeasureT-loop
-μ-loop text n out₀ count i₀ out i = n - i
+μ-loop kind text n out₀ count i₀ out i = n - i
 
 slice-relend-prefix-write-groups : tie.Need-slice-relend-prefix-write-groups Inv-loop μ-loop
 slice-relend-prefix-write-groups c = search needs
@@ -64,7 +63,7 @@ loop-holds c =
     let packed = c .before .before in
     let start = packed .before .before .before .before in
     let a = start .args in
-    (omega arith, omega (arith, start .pre, lent-length (groupOf (a .coding) (bytesOf (now (a .text)))) (a .n) (now (a .out)) (start .pre) (packed .write-groups .ensures)), refl, refl)
+    (omega arith, omega (arith, start .pre, lent-length (groupFrom (a .kind) (now (a .text))) (a .n) (now (a .out)) (start .pre) (packed .write-groups .ensures)), refl, refl)
 
 mul-message : tie.Need-mul-message Inv-loop μ-loop
 mul-message c = search needs
@@ -112,7 +111,7 @@ same-length c =
     let packed = c .before .before .before .before in
     let start = packed .before .before .before .before in
     let a = start .args in
-    c .before .loop .inv .2 ∙ lent-length (groupOf (a .coding) (bytesOf (now (a .text)))) (a .n) (now (a .out)) (start .pre) (packed .write-groups .ensures)
+    c .before .loop .inv .2 ∙ lent-length (groupFrom (a .kind) (now (a .text))) (a .n) (now (a .out)) (start .pre) (packed .write-groups .ensures)
 
 returns : tie.Need-returns Inv-loop μ-loop
 returns c =
@@ -120,7 +119,7 @@ returns c =
     let packed = c .before .before .before .before in
     let start = packed .before .before .before .before in
     let a = start .args in
-    let f = groupOf (a .coding) (bytesOf (now (a .text))) in
+    let f = groupFrom (a .kind) (now (a .text)) in
     let old = packed .write-groups .last .1 .1 .0 ++ drop (a .n) (now (a .out)) in
     let e : l .i ≡ length (coded old (a .n)) = omega (arith, tab-length (λ k. codeword (messageBits (getD old k 0))) (a .n)) in
     l .inv .3 ∙ ap (filled old (coded old (a .n))) e ∙ filled-over old (coded old (a .n)) ∙ replaced f (a .n) (now (a .out)) (lent f (a .n) (now (a .out)) (start .pre) (packed .write-groups .ensures))

@@ -7,13 +7,10 @@ use borrow.Author.Needs.{needs}
 use lib.ListN.{length, getD, take, drop, replicate, length-map}
 use lib.Seq.{take-at, length-take-le}
 use Rattle.base.proofs.ListLaws.{filled, filled-turn, filled-over, filled-length}
-use Rattle.text.specs.Coding.{groupsOf}
-use Rattle.text.specs.declared.Coding.{Coding}
-use Rattle.job.specs.Pages.{noPage}
 use Rattle.job.proofs.Accepted.{accepted-job}
 use Rattle.transmission.specs.Sending.{Sending, sendingsOf, framesOf, countsOf}
 use Rattle.transmission.proofs.Sendings.{words-at, sendings-count, accepted-sendings}
-use Rattle.transmission.proofs.Planned.{frame-is, few-characters, count-is}
+use Rattle.transmission.proofs.Planned.{frame-is, few-digits, count-is}
 use Rattle.transmission.proofs.Prepared.{Prepared, prepared, few-batches, plan, short-words, short-slots, enough, words-over, slots-over}
 use Rattle.transmission.proofs.send_pages.Statement.{statement}
 use Rattle.transmission.proofs.send_pages.Tie as tie
@@ -33,12 +30,11 @@ counts-count : (from : tie.Start Inv-loop μ-loop) → length (countsOf (sending
 counts-count from = let s = from .args .job .now in length-map (sendingsOf s) (λ (x : Sending). length (x .groups)) ∙ sendings-count s (from .args .n) (from .pre .1)
 
 -- the number of groups of page k
-counted : (c : tie.After-groups Inv-loop μ-loop) → c .groups .result ≡ getD (countsOf (sendingsOf (c .before .before .before .before .before .before .before .before .before .before .args .job .now))) (c .before .before .before .before .before .before .loop .k) 0
+counted : (c : tie.After-groups Inv-loop μ-loop) → c .groups .result ≡ getD (countsOf (sendingsOf (c .before .before .before .before .before .before .before .before .before .args .job .now))) (c .before .before .before .before .before .loop .k) 0
 counted c =
-    let at = c .before .before .before .before .before .before in
+    let at = c .before .before .before .before .before in
     let from = at .before .before .before .before in
     c .groups .ensures
-    ∙ ap (λ (x : Coding). groupsOf x (getD (from .args .t2 .pages) (at .loop .k) noPage .length / 2)) (c .before .before .coding .ensures)
     ∙ count-is (from .args .job .now) (from .args .n) (from .pre .1) (from .pre .0) (at .loop .k) (omega arith)
 
 -- an array's front when all pages are passed
@@ -90,23 +86,20 @@ cast-frames c = search needs
 array-write-frames : tie.Need-array-write-frames Inv-loop μ-loop
 array-write-frames c = search needs
 
-coding-requires : tie.Need-coding-requires Inv-loop μ-loop
-coding-requires c κs = search needs
-
 cast-groups : tie.Need-cast-groups Inv-loop μ-loop
 cast-groups c =
-    let at = c .before .before .before .before .before in
+    let at = c .before .before .before .before in
     let from = at .before .before .before .before in
-    record { fits = omega (arith, few-characters (from .args .job .now) (from .args .n) (from .pre .1) (from .pre .0) (at .loop .k) (omega arith)) }
+    record { fits = omega (arith, few-digits (from .args .job .now) (from .args .n) (from .pre .1) (from .pre .0) (at .loop .k) (omega arith)) }
 
 groups-requires : tie.Need-groups-requires Inv-loop μ-loop
 groups-requires c κs = search needs
 
 cast-groups-2 : tie.Need-cast-groups-2 Inv-loop μ-loop
 cast-groups-2 c =
-    let from = c .before .before .before .before .before .before .before .before .before .before in
+    let from = c .before .before .before .before .before .before .before .before .before in
     let s = from .args .job .now in
-    let k = c .before .before .before .before .before .before .loop .k in
+    let k = c .before .before .before .before .before .loop .k in
     let brief = accepted-sendings s (from .args .n) (from .pre .1) .each k (omega (arith, sendings-count s (from .args .n) (from .pre .1))) .brief in
     record { fits = omega (arith, counted c, words-at (sendingsOf s) k, brief) }
 
@@ -124,7 +117,7 @@ loop-less c = search needs
 
 loop-again : tie.Need-loop-again Inv-loop μ-loop
 loop-again c =
-    let at = c .before .before .before .before .before .before in
+    let at = c .before .before .before .before .before in
     let from = at .before .before .before .before in
     let k = at .loop .k in
     let s = from .args .job .now in
@@ -236,7 +229,6 @@ send-pages-spec =
     element-copy-out-page
     cast-frames
     array-write-frames
-    coding-requires
     cast-groups
     groups-requires
     cast-groups-2

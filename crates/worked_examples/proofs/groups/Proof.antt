@@ -5,25 +5,25 @@ use Rattle.worked_examples.proofs.groups.Statement.{statement}
 use Rattle.worked_examples.proofs.groups.Tie as tie
 
 abbrev Inv-loop : tie.InvT-loop
-Inv-loop line n first g₀ g = g ≤ 8
+Inv-loop line kind n first g₀ g = g ≤ 8
 
 abbrev μ-loop : tie.MeasureT-loop
-μ-loop line n first g₀ g = 8 - g
+μ-loop line kind n first g₀ g = 8 - g
 
 returns : tie.Need-returns Inv-loop μ-loop
 returns c = search needs
 
-coding-at-requires : tie.Need-coding-at-requires Inv-loop μ-loop
-coding-at-requires c κs = search needs
+kind-at-requires : tie.Need-kind-at-requires Inv-loop μ-loop
+kind-at-requires c κs = search needs
 
-sub-pairs : tie.Need-sub-pairs Inv-loop μ-loop
-sub-pairs c = search needs
+sub-digits : tie.Need-sub-digits Inv-loop μ-loop
+sub-digits c = search needs
 
-part-pairs-start : tie.Need-part-pairs-start Inv-loop μ-loop
-part-pairs-start c = search needs
+part-digits-start : tie.Need-part-digits-start Inv-loop μ-loop
+part-digits-start c = search needs
 
-part-pairs-end : tie.Need-part-pairs-end Inv-loop μ-loop
-part-pairs-end c = search needs
+part-digits-end : tie.Need-part-digits-end Inv-loop μ-loop
+part-digits-end c = search needs
 
 cast-groups : tie.Need-cast-groups Inv-loop μ-loop
 cast-groups c = search needs
@@ -68,10 +68,10 @@ groups-spec =
     Inv-loop
     μ-loop
     returns
-    coding-at-requires
-    sub-pairs
-    part-pairs-start
-    part-pairs-end
+    kind-at-requires
+    sub-digits
+    part-digits-start
+    part-digits-end
     cast-groups
     groups-requires
     slice-aggregate-write-groups
