@@ -26,13 +26,13 @@ static size_t put(uint8_t *to, size_t at, const char *text) {
     return at + length;
 }
 
-/* so many alphanumeric pages to 000007, the last one of 240 characters, those before it of so many: the job's bytes */
-static size_t pages(int count, int characters) {
+/* so many pages with this head and these units for a text, `last` of them in the last page and `others` in the rest: the job's bytes */
+static size_t pages(const char *head, const char *unit, int count, int others, int last) {
     size_t at = 0;
     for (int page = 1; page <= count; page++) {
-        at = put(job, at, "000007 5 ");
-        for (int i = 0; i < (page == count ? 240 : characters); i++)
-            at = put(job, at, "7A");
+        at = put(job, at, head);
+        for (int i = 0; i < (page == count ? last : others); i++)
+            at = put(job, at, unit);
         at = put(job, at, "\n");
     }
     return at;
@@ -63,7 +63,7 @@ static size_t list_words(void) {
 /* the transmission that is as long as we know one: each message but the last has 80 codewords and ends just before frame 7, where the
  * next page has to pause for a slot and so loses the frame */
 static void longest_transmission(void) {
-    size_t length = pages(CARD_PAGES, 228);
+    size_t length = pages("000007 5 ", "7A", CARD_PAGES, 228, 240);
     memset(slots, UNTOUCHED, sizeof slots);
     struct card_report s = card_send(job, length, words, CARD_WORDS, slots, CARD_PAGES);
     EXPECT(s.number == 0 && s.batches == 289 && s.words == 18 + 17 * 289 && slots[CARD_PAGES - 1] == 14 + 96 * 47);
@@ -77,9 +77,10 @@ static void longest_transmission(void) {
     EXPECT(card_list(job, length, listing, l.bytes - 1).number == CARD_REFUSED_BUFFER_TOO_SHORT);
 }
 
-/* the job with the most message codewords: a state is full to its last word, and the steps give what is sent; a page more is too many */
-static void most_message_words(void) {
-    size_t length = pages(CARD_PAGES, 240);
+/* a job with the most message codewords, its pages all alike: a state is full to its last word, and the steps give what is sent; a page
+ * more is too many */
+static void most_message_words(const char *head, const char *unit, int units) {
+    size_t length = pages(head, unit, CARD_PAGES, units, units);
     struct card_report s = card_send(job, length, words, CARD_WORDS, slots, CARD_PAGES);
     EXPECT(s.number == 0 && card_start(job, length, &state).number == 0);
     EXPECT(state.pages.count == CARD_PAGES && state.pages.starts[CARD_PAGES - 1] + state.pages.lengths[CARD_PAGES - 1] == CARD_MESSAGE_WORDS);
@@ -87,7 +88,7 @@ static void most_message_words(void) {
     for (uint32_t i = 0; i < s.words; i++)
         again[i] = card_step(&state).word;
     EXPECT(memcmp(again, words, sizeof *words * s.words) == 0 && card_step(&state).done == 1);
-    length = pages(CARD_PAGES + 1, 240);
+    length = pages(head, unit, CARD_PAGES + 1, units, units);
     struct card_refusal r = card_start(job, length, &state);
     EXPECT(r.number == CARD_REFUSED_TOO_MANY_PAGES && r.place == 49 && r.position == 0);
 }
@@ -130,7 +131,14 @@ static const struct declined jobs[] = {
     {"000009 0\n000009 4 313\n", CARD_REFUSED_LINE_FORM, 2},
     {"000009 0\n200000 0\n", CARD_REFUSED_IDENTITY_TOO_LARGE, 2},
     {"1EA270 0\n", CARD_REFUSED_IDENTITY_RESERVED, 1},
-    {"000009 6\n", CARD_REFUSED_KIND, 1},
+    {"000009 8\n", CARD_REFUSED_KIND, 1},
+    {"000009 0\n000009 8 12345\n", CARD_REFUSED_LINE_FORM, 2},
+    {"000009 6 \n", CARD_REFUSED_LINE_FORM, 1},
+    {"000009 7 1234a\n", CARD_REFUSED_LINE_FORM, 1},
+    {"000009 6 12345-\n", CARD_REFUSED_LINE_FORM, 1},
+    {"200000 6 123\n", CARD_REFUSED_IDENTITY_TOO_LARGE, 1},
+    {"200000 4 123\n", CARD_REFUSED_LINE_FORM, 1},
+    {"1EA270 7 123\n", CARD_REFUSED_IDENTITY_RESERVED, 1},
     {"", CARD_REFUSED_EMPTY_JOB, 0},
 };
 
@@ -140,7 +148,8 @@ static void declined_jobs(void) {
         answered((const uint8_t *)jobs[i].job, strlen(jobs[i].job), jobs[i].number, jobs[i].place, 0);
 }
 
-/* a page with so many characters: bad ones at up to two positions (0 is none), the first one first, and perhaps a space as the last */
+/* a page with so many characters, of a data page digits: bad ones at up to two positions (0 is none), the first one first, and perhaps
+ * a space as the last */
 struct text {
     int kind, characters, bad, also_bad, ends_in_space;
     uint32_t number;
@@ -183,6 +192,21 @@ static const struct text texts[] = {
     {5, 240, 240, 0, 0, CARD_REFUSED_CHARACTER},
     {5, 240, 120, 240, 0, CARD_REFUSED_CHARACTER},
     {5, 240, 239, 0, 1, CARD_REFUSED_CHARACTER},
+    {6, 0, 0, 0, 0, CARD_REFUSED_NO_TEXT},
+    {6, 1, 0, 0, 0, CARD_REFUSED_PARTIAL_GROUP},
+    {6, 4, 0, 0, 0, CARD_REFUSED_PARTIAL_GROUP},
+    {6, 5, 0, 0, 0, 0},
+    {6, 6, 0, 0, 0, CARD_REFUSED_PARTIAL_GROUP},
+    {6, 419, 0, 0, 0, CARD_REFUSED_PARTIAL_GROUP},
+    {6, 420, 0, 0, 0, 0},
+    {6, 421, 0, 0, 0, CARD_REFUSED_PARTIAL_GROUP},
+    {6, 425, 0, 0, 0, CARD_REFUSED_TEXT_TOO_LONG},
+    {7, 0, 0, 0, 0, CARD_REFUSED_NO_TEXT},
+    {7, 4, 0, 0, 0, CARD_REFUSED_PARTIAL_GROUP},
+    {7, 5, 0, 0, 0, 0},
+    {7, 420, 0, 0, 0, 0},
+    {7, 421, 0, 0, 0, CARD_REFUSED_PARTIAL_GROUP},
+    {7, 425, 0, 0, 0, CARD_REFUSED_TEXT_TOO_LONG},
 };
 
 /* the page's line, behind what stands in the job: where it ends */
@@ -192,12 +216,12 @@ static size_t put_text(size_t at, const struct text *page) {
     at = put(job, at, head);
     for (int i = 1; i <= page->characters; i++) {
         int bad = i == page->bad || i == page->also_bad;
-        at = put(job, at, bad ? "00" : page->ends_in_space && i == page->characters ? "20" : "31");
+        at = put(job, at, page->kind > 5 ? "F" : bad ? "00" : page->ends_in_space && i == page->characters ? "20" : "31");
     }
     return put(job, at, "\n");
 }
 
-/* a text's length and characters, in the second line of a job */
+/* a text's length and characters, in the second line of a job */
 static void declined_texts(void) {
     for (size_t i = 0; i < sizeof texts / sizeof *texts; i++) {
         size_t length = put_text(put(job, 0, "000009 0\n"), &texts[i]);
@@ -257,7 +281,8 @@ static void null_readings(const struct engine *by) {
 
 int main(void) {
     longest_transmission();
-    most_message_words();
+    most_message_words("000007 5 ", "7A", 240);
+    most_message_words("000007 6 ", "ABCDE", 84);
     declined_jobs();
     declined_texts();
     null_jobs();

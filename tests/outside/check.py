@@ -9,9 +9,9 @@ multimon-ng comes with `apt-get install multimon-ng`. Where it is missing the ch
 Each job is sent, its listing is made into sound, and multimon-ng, which knows nothing of this library, says what it hears. Its
 lines must be the job's pages, each with address, function and text, in the order in which their addresses go out. That order
 is worked out here, from the rule for the slots alone. The fixed jobs have every function in every frame, every bit of an
-address, the neighbours of the reserved addresses, every length of both kinds of text, every character, messages that end
-just before, on and after the end of a batch, and pauses after a message in which messages and tones wait. The drawn jobs mix
-all of these. The first difference is printed with its job, and the exit status is then 1.
+address, the neighbours of the reserved addresses, every length of each kind of text, every character, every bit of a data page's
+group, messages that end just before, on and after the end of a batch, and pauses after a message in which messages and tones
+wait. The drawn jobs mix all of these. The first difference is printed with its job, and the exit status is then 1.
 
 The sound: 22050 samples a second, 16 bits each with sign, low byte first. A one is a low level and a zero a high one (the
 other way round multimon-ng hears nothing). Every job is heard at 512 and at 1200 bits a second. After the listing come 96 bits
@@ -24,7 +24,11 @@ Options and conventions of multimon-ng 1.2.0:
 - `-p` shows a page that loses the signal. A page is printed only when something follows it; one whose address is the last
   word of all needs both `-p` and the bits behind the listing. Plain silence won't do: a steady high level is heard as
   addresses 0 to 7, a steady low one as more of the message.
-- No `-f`: function 0 is then printed as `Numeric`, function 3 as `Alpha`. With `-f auto` it prints several guesses for a page.
+- No `-f`: function 0 is then printed as `Numeric`, any other function with a message as `Alpha`. With `-f auto` it prints several
+  guesses for a page.
+- It knows no data pages (R-11), which have function 1 or 2 and a message. As `Alpha`, like any text, they are compared as printed,
+  which doesn't settle all their bits. So a job with data pages is heard once more with `-f numeric`. Every message is then
+  `Numeric`, a sign for each four bits, the spare as `.`; for a data page that is a sign for each digit, and every bit is compared.
 - No `-e`: that would hide the tones. They have neither `Numeric` nor `Alpha` behind them, whatever their function.
 - Addresses are decimal, all 21 bits, the low three taken from the place in the batch.
 - Numeric texts show brackets, U, hyphen and space as themselves. The spaces that fill the last word are printed and compared.
@@ -38,7 +42,7 @@ Options and conventions of multimon-ng 1.2.0:
 
 - Its clock follows the changes of level. More than 120 DEL in a row are words of ones alone, hundreds of bits without a
   change; at 512 bits a second it then slips a bit (at 1200, or with the sound stretched by one part in ten thousand, it
-  hears all 240). So DEL is repeated 100 times at most here.
+  hears all 240). So DEL is repeated 100 times at most here, and the group FFFFF, also a word of ones alone, 30 times.
 
 What this can't see: the length of the preamble, single wrong bits in idle words, the number of batches behind the last page.
 """
@@ -60,8 +64,12 @@ LOW = (-16000).to_bytes(2, "little", signed=True)
 HIGH = (16000).to_bytes(2, "little", signed=True)
 SYNC, IDLE = 0x7CD215D8, 0x7A89C197
 PREAMBLE_WORDS = 18
-TONES, NUMERIC, ALPHA = range(4), 4, 5
-DIGITS = b"0123456789U -]["
+TONES, NUMERIC, ALPHA, DATA = range(4), 4, 5, (6, 7)
+FUNCTIONS = {NUMERIC: 0, ALPHA: 3, 6: 1, 7: 2}
+SORTS = {NUMERIC: "numeric", ALPHA: "alphanumeric", 6: "data", 7: "data"}
+SIGNS = b"0123456789.U -]["  # by their four bits, low bit first; the spare can't be sent
+DIGITS = SIGNS.replace(b".", b"")
+HEX = b"0123456789ABCDEF"
 PRINTABLE = bytes(range(32, 127))
 ALL_BYTES = bytes(c for c in range(1, 128) if c not in (3, 4))
 NAMES = dict(enumerate(
@@ -76,10 +84,10 @@ class Difference(Exception):
     pass
 
 
-# A page is (identity, kind, text); a job is a list of pages.
+# A page is (identity, kind, text), where a data page's text is its digits; a job is a list of pages.
 
 def job_lines(job):
-    return "".join("%06X %X%s\n" % (i, k, " " + t.hex().upper() if t else "") for i, k, t in job)
+    return "".join("%06X %X%s\n" % (i, k, " " + (t.decode() if k in DATA else t.hex().upper()) if t else "") for i, k, t in job)
 
 
 def message_words(page):
@@ -88,7 +96,7 @@ def message_words(page):
         return -(-len(text) // 5)
     if kind == ALPHA:
         return -(-7 * len(text) // 20)
-    return 0
+    return len(text) // 5
 
 
 def sending_order(job):
@@ -105,15 +113,27 @@ def sending_order(job):
     return order
 
 
-def as_printed(page):
-    """Address, function, label and text as multimon-ng prints them, the text without its limit."""
-    identity, kind, text = page
+def message_bits(page):
+    """The bits of the message codewords, in the order in which they are sent."""
+    _, kind, text = page
     if kind == NUMERIC:
-        return identity, 0, "Numeric", text.decode().ljust(5 * message_words(page))
+        return "".join(format(SIGNS.index(c), "04b")[::-1] for c in text.ljust(5 * message_words(page)))
     if kind == ALPHA:
-        fill = (20 * message_words(page) - 7 * len(text)) // 7
-        return identity, 3, "Alpha", "".join("<%s>" % NAMES[c] if c in NAMES else chr(c) for c in text + bytes(fill))
-    return identity, kind, None, None
+        return "".join(format(c, "07b")[::-1] for c in text).ljust(20 * message_words(page), "0")
+    return "".join(format(HEX.index(c), "04b") for c in text)
+
+
+def as_printed(page, all_numeric):
+    """Address, function, label and text as multimon-ng prints them, the text without its limit and perhaps always as numeric."""
+    identity, kind, _ = page
+    if kind in TONES:
+        return identity, kind, None, None
+    function, bits = FUNCTIONS[kind], message_bits(page)
+    size = 4 if all_numeric or function == 0 else 7
+    signs = [int(bits[n:n + size][::-1], 2) for n in range(0, len(bits) - size + 1, size)]
+    if size == 4:
+        return identity, function, "Numeric", "".join(chr(SIGNS[c]) for c in signs)
+    return identity, function, "Alpha", "".join("<%s>" % NAMES[c] if c in NAMES else chr(c) for c in signs)
 
 
 def is_ambiguous(page):
@@ -135,9 +155,10 @@ def sound(words, rate):
                     for n, bit in enumerate(bits))
 
 
-def hear(words, rate):
+def hear(words, rate, all_numeric):
     """The pages that multimon-ng prints, in its order; a line of another form is kept as it is."""
-    command = [DECODER, "-q", "-c", "-a", "POCSAG%d" % rate, "-p", "-b", "0", "-t", "raw", "-"]
+    mode = ["-f", "numeric"] if all_numeric else []
+    command = [DECODER, "-q", "-c", "-a", "POCSAG%d" % rate, "-p", "-b", "0", *mode, "-t", "raw", "-"]
     with tempfile.TemporaryFile() as samples:  # a file, since what it hears of a pipe depends on how the reads fall
         samples.write(sound(words, rate))
         samples.seek(0)
@@ -158,8 +179,14 @@ def hear(words, rate):
 
 
 def compare(words, job, rate):
-    expected = [(*rest, text and text[:CUT]) for *rest, text in map(as_printed, sending_order(job))]
-    heard = hear(words, rate)
+    compare_as(words, job, rate, False)
+    if any(kind in DATA for _, kind, _ in job):
+        compare_as(words, job, rate, True)
+
+
+def compare_as(words, job, rate, all_numeric):
+    expected = [(*rest, text and text[:CUT]) for *rest, text in (as_printed(page, all_numeric) for page in sending_order(job))]
+    heard = hear(words, rate, all_numeric)
     if heard == expected:
         return
     at = next((n for n, (e, h) in enumerate(zip(expected, heard)) if e != h), min(len(expected), len(heard)))
@@ -185,16 +212,18 @@ def draw_text(rng, kind, length):
     if kind == NUMERIC:
         text = bytes(rng.choice(DIGITS) for _ in range(length))
         return text[:-1] + b"7" if text.endswith(b" ") else text
+    if kind in DATA:
+        return bytes(rng.choice(HEX) for _ in range(5 * length))
     signs = ALL_BYTES if rng.random() < 0.1 else PRINTABLE
     return bytes(rng.choice(signs) for _ in range(length))
 
 
 def draw_page(rng, identity=None):
     identity = draw_identity(rng) if identity is None else identity
-    kind = rng.randrange(6)
+    kind = rng.randrange(8)
     if kind in TONES:
         return identity, kind, b""
-    most = 60 if kind == NUMERIC else 240
+    most = 60 if kind == NUMERIC else 240 if kind == ALPHA else 84
     length = rng.randint(1, rng.choice((5, 20, most)))
     return identity, kind, draw_text(rng, kind, length)
 
@@ -231,6 +260,13 @@ def fixed_jobs(rng):
         yield [(draw_identity(rng), NUMERIC, draw_text(rng, NUMERIC, n)) for n in range(first, first + 20)]
     for first in range(1, 241, 24):
         yield [(draw_identity(rng), ALPHA, bytes(rng.choice(PRINTABLE) for _ in range(n))) for n in range(first, first + 24)]
+    for first in range(1, 84, 12):
+        yield [(draw_identity(rng), DATA[n % 2], draw_text(rng, DATA[n % 2], n)) for n in range(first, first + 12)]
+    yield [(some + n, kind, draw_text(rng, kind, n)) for kind in DATA for n in (1, 2, 83, 84)]
+    # Every digit at every place of a group, every bit of a group alone, and groups that are all alike.
+    yield [(some + kind, kind, HEX * 5) for kind in DATA]
+    yield [(some + kind, kind, b"".join(b"%05X" % (1 << n) for n in range(20))) for kind in DATA]
+    yield [(some, 6, b"00000" * 84), (some, 7, b"FFFFF" * 30), (some, 6, b"33333" * 84)]
     # Every character, alone and together.
     yield [(some, NUMERIC, DIGITS), (some, NUMERIC, DIGITS[::-1]), (some, NUMERIC, b"    1")]
     yield [(some + n % 8, NUMERIC, bytes([c])) for n, c in enumerate(DIGITS) if c != 32]
@@ -256,6 +292,7 @@ def fixed_jobs(rng):
         yield [first, message, later]
         yield [first, message, tone, later]
         yield [first, message, message, tone, tone, later]
+        yield [first, (some + 8 + frame, 6, b"12345"), tone, later]
         yield [first, tone, message, later]
     # Full frames; a last word that is an address; messages in the last slots.
     yield [(some + 7, 1, b""), (some + 15, 2, b"")]
@@ -296,7 +333,7 @@ def main(arguments):
         return 2
     rng = random.Random(seed)
     jobs = list(fixed_jobs(rng)) + [draw_job(rng) for _ in range(drawn)]
-    pages = {"tone": 0, "numeric": 0, "alphanumeric": 0}
+    pages = dict.fromkeys(("tone", *SORTS.values()), 0)
     ambiguous = cut = spoilings = 0
     for number, job in enumerate(jobs):
         try:
@@ -307,9 +344,9 @@ def main(arguments):
             print("outside: job %d differs, %s\nthe job:\n%s" % (number + 1, difference, job_lines(job)), end="")
             return 1
         for page in job:
-            pages["numeric" if page[1] == NUMERIC else "alphanumeric" if page[1] == ALPHA else "tone"] += 1
+            pages[SORTS.get(page[1], "tone")] += 1
             ambiguous += is_ambiguous(page)
-            cut += len(as_printed(page)[3] or "") > CUT
+            cut += page[1] == ALPHA and len(as_printed(page, False)[3]) > CUT
         if number % 3 == 0:
             spoilings += 1
             if not finds(spoilt(words, rng), job, RATES[number % 2]):

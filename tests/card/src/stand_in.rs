@@ -1,6 +1,7 @@
 //! The library's C functions on top of the independent implementation, for builds without the archive. CARD_FAULT names a mistake
 //! to be made on purpose, so that one can see the comparison find it.
 
+mod data;
 mod declined;
 pub mod program;
 mod slow;
@@ -78,6 +79,20 @@ pub const FAULTS: &[&str] = &[
     "start-without-position",
     "program-without-position",
     "program-with-0",
+    "1-and-2-exchanged",
+    "7-is-4",
+    "lower-case-digits",
+    "odd-digits-are-1",
+    "odd-digits-after-4",
+    "groups-of-four",
+    "85-groups",
+    "25-after-14",
+    "25-without-text",
+    "position-with-25",
+    "last-digit-on-top",
+    "low-bits-on-top",
+    "data-starts-in-the-pause",
+    "cut-within-a-group",
     "slow-one-bit",
     "slow-31-bits",
     "slow-three-bits",
@@ -128,7 +143,10 @@ fn answered(received: u32, word: u32) -> Word {
 
 /// The job as it is or, for some mistakes, as it is wrongly taken.
 fn taken(job: &[u8]) -> Vec<u8> {
-    let mut job = job.to_vec();
+    if asked().is_empty() {
+        return job.to_vec();
+    }
+    let mut job: Vec<u8> = job.split_inclusive(|&byte| byte == b'\n').flat_map(data::taken).collect();
     if is("newline-optional") && job.last().is_some_and(|&byte| byte != b'\n') {
         job.push(b'\n');
     }
@@ -295,26 +313,42 @@ fn summed(words: impl FnOnce() -> Vec<u32>, right: reader::Changes) -> Changes {
     Changes { slots, syncs }
 }
 
+/// What is read, as it is right or, for some mistakes, wrong, and how many bytes that is.
+fn printed(out: &mut [u8], bytes: usize) -> usize {
+    if is("cut-not-shown") {
+        for pair in 1..bytes {
+            if out[pair - 1] == b'-' {
+                out[pair - 1] = b'\n';
+            }
+        }
+    }
+    if is("cut-keeps-its-kind") {
+        for at in 2..bytes {
+            match &mut out[at - 2..=at] {
+                [b' ', kind @ b'0', b'-'] => *kind = b'4',
+                [b' ', kind @ b'3', b'-'] => *kind = b'5',
+                _ => {}
+            }
+        }
+    }
+    if is("cut-within-a-group") {
+        let lines = out[..bytes].split_inclusive(|&byte| byte == b'\n');
+        let shorter = lines.flat_map(|line| match line {
+            [front @ .., _, b'-', b'\n'] if matches!(line[7], b'6' | b'7') => [front, b"-\n"].concat(),
+            _ => line.to_vec(),
+        });
+        let shorter: Vec<u8> = shorter.collect();
+        out[..shorter.len()].copy_from_slice(&shorter);
+        return shorter.len();
+    }
+    bytes
+}
+
 /// An answer in the header's form; `words` gives the words of the batches.
 fn reading(result: Result<reader::Reading, Refusal>, words: impl FnOnce() -> Vec<u32>, out: &mut [u8]) -> Reading {
     match result {
         Ok(reader::Reading { bytes, pages, lost, orphans, changed }) => {
-            if is("cut-not-shown") {
-                for pair in 1..bytes {
-                    if out[pair - 1] == b'-' {
-                        out[pair - 1] = b'\n';
-                    }
-                }
-            }
-            if is("cut-keeps-its-kind") {
-                for at in 2..bytes {
-                    match &mut out[at - 2..=at] {
-                        [b' ', kind @ b'0', b'-'] => *kind = b'4',
-                        [b' ', kind @ b'3', b'-'] => *kind = b'5',
-                        _ => {}
-                    }
-                }
-            }
+            let bytes = printed(out, bytes);
             let orphans = if is("orphans-not-counted") { 0 } else { orphans };
             Reading { place: 0, bytes, number: 0, pages, lost, orphans, changed: summed(words, changed) }
         }
@@ -436,7 +470,8 @@ unsafe extern "C" fn card_step(state: *mut Sender) -> Step {
     let pause = cursor.message != 0 && !is("no-pause") && !(is("no-pause-behind-a-sync") && in_batch == 0);
     cursor.message = 0;
     let mut waiting = (0..counted).filter(|&page| sent[page] == 0 && u32::from(pages.frames[page]) == in_batch / 2);
-    let may_start = |&page: &usize| !pause || pages.lengths[page] == 0 && !is("no-tone-in-the-pause");
+    let tone = |page: usize| pages.lengths[page] == 0 && !is("no-tone-in-the-pause");
+    let may_start = |&page: &usize| !pause || tone(page) || data::starts_in_the_pause(pages.addresses[page]);
     let next = if is("no-overtaking-in-the-pause") { waiting.next().filter(may_start) } else { waiting.find(may_start) };
     match next {
         Some(page) => {

@@ -5,20 +5,22 @@ use crate::{bytes, Random};
 const NUMERIC: &[u8] = b"0123456789U -][";
 const MOST_NUMERIC: usize = 60;
 const MOST_ALPHANUMERIC: usize = 240;
+const DIGITS: &[u8] = b"0123456789ABCDEF";
+const GROUP: usize = 5;
+const MOST_GROUPS: usize = 84;
 const EDGES: &[u32] = &[0, 7, 8, 0x1E_A26F, 0x1E_A278, 0x1F_347F, 0x1F_3488, 0x1F_FFF8, 0x1F_FFFF];
 const RESERVED: &[u32] = &[0x1E_A270, 0x1F_3480];
 
-/// A page line with the given text, without further ado.
+/// A page line with the given text in pairs, without further ado.
 pub fn line(identity: u32, kind: u32, text: &[u8]) -> Vec<u8> {
-    let mut line = format!("{identity:06X} {kind:X}");
-    if !text.is_empty() {
-        line.push(' ');
-        for byte in text {
-            line.push_str(&format!("{byte:02X}"));
-        }
-    }
-    line.push('\n');
-    line.into_bytes()
+    let pairs: String = text.iter().map(|byte| format!("{byte:02X}")).collect();
+    line_of_digits(identity, kind, pairs.as_bytes())
+}
+
+/// A page line with these digits for a text: a data page where the kind is 6 or 7.
+pub fn line_of_digits(identity: u32, kind: u32, digits: &[u8]) -> Vec<u8> {
+    let space = if digits.is_empty() { "" } else { " " };
+    [format!("{identity:06X} {kind:X}{space}").as_bytes(), digits, b"\n"].concat()
 }
 
 pub fn is_reserved(identity: u32) -> bool {
@@ -54,6 +56,11 @@ pub fn alphanumeric_text(random: &mut Random, length: usize) -> Vec<u8> {
     (0..length).map(|_| character()).collect()
 }
 
+/// So many upper-case digits.
+fn digits(random: &mut Random, count: usize) -> Vec<u8> {
+    (0..count).map(|_| random.pick(DIGITS)).collect()
+}
+
 /// A length from 1 to `most`, often at a limit or just where another codeword begins.
 fn length(random: &mut Random, most: usize) -> usize {
     let length = match random.below(8) {
@@ -85,11 +92,16 @@ fn text_of_kind(random: &mut Random, kind: u32) -> Vec<u8> {
 /// A good line of a given kind in one of the frames.
 fn page_of_kind(random: &mut Random, frames: &[u32], kind: u32) -> Vec<u8> {
     let identity = identity(random, frames);
+    if DATA_KINDS.contains(&kind) {
+        let groups = length(random, MOST_GROUPS);
+        return line_of_digits(identity, kind, &digits(random, GROUP * groups));
+    }
     line(identity, kind, &text_of_kind(random, kind))
 }
 
 const ALL_FRAMES: &[u32] = &[0, 1, 2, 3, 4, 5, 6, 7];
-const ALL_KINDS: &[u32] = &[0, 1, 2, 3, 4, 5];
+const ALL_KINDS: &[u32] = &[0, 1, 2, 3, 4, 5, 6, 7];
+const DATA_KINDS: &[u32] = &[6, 7];
 
 /// A good line of any kind.
 pub fn page(random: &mut Random) -> Vec<u8> {
@@ -110,6 +122,17 @@ pub fn pages(random: &mut Random, count: usize, frames: &[u32], kinds: &[u32]) -
 /// The largest jobs: 48 alphanumeric pages of 240 characters, in one frame or in any.
 pub fn maximal(random: &mut Random, frames: &[u32]) -> Vec<u8> {
     alphanumeric(random, 48, 240, frames)
+}
+
+/// As many message codewords: 48 data pages of 84 groups.
+pub fn maximal_data(random: &mut Random, frames: &[u32]) -> Vec<u8> {
+    let mut job = Vec::new();
+    for _ in 0..48 {
+        let identity = identity(random, frames);
+        let kind = random.pick(DATA_KINDS);
+        job.extend(line_of_digits(identity, kind, &digits(random, GROUP * MOST_GROUPS)));
+    }
+    job
 }
 
 /// `count` alphanumeric pages of the same length.
@@ -135,6 +158,7 @@ fn page_of_words(random: &mut Random, frame: u32, words: usize) -> Vec<u8> {
     let identity = identity(random, &[frame]);
     match words {
         0 => line(identity, random.below(4) as u32, &[]),
+        _ if random.once_in(4) => line_of_digits(identity, random.pick(DATA_KINDS), &digits(random, GROUP * words)),
         1..=12 if random.once_in(2) => line(identity, 4, &numeric_text(random, 5 * words)),
         _ => line(identity, 5, &alphanumeric_text(random, 20 * words / 7)),
     }
@@ -190,15 +214,19 @@ pub fn good(random: &mut Random) -> Vec<u8> {
         }
         6 => pages(random, count, ALL_FRAMES, &[0, 1, 2, 3]),
         7 => pages(random, count, &frame, &[0, 1, 2, 3]),
-        8 => pages(random, count, ALL_FRAMES, &[4]),
+        8 => {
+            let kinds = if random.once_in(2) { &[4] } else { DATA_KINDS };
+            pages(random, count, ALL_FRAMES, kinds)
+        }
         9 => page(random).repeat(count),
         10 => near_the_batch_end(random),
         11 | 12 => around_the_pause(random),
         _ if random.once_in(4) => {
             let frames = if random.once_in(2) { &frame[..] } else { ALL_FRAMES };
+            let maximal = random.pick(&[maximal, maximal_data]);
             maximal(random, frames)
         }
-        _ => pages(random, count, ALL_FRAMES, &[4, 5]),
+        _ => pages(random, count, ALL_FRAMES, &[4, 5, 6, 7]),
     }
 }
 
@@ -206,7 +234,7 @@ pub fn good(random: &mut Random) -> Vec<u8> {
 fn malformed_line(random: &mut Random) -> Vec<u8> {
     let mut line = page(random);
     let end = line.len() - 1;
-    match random.below(8) {
+    match random.below(9) {
         0 => line.truncate(random.below(8)),
         1 => line.insert(end, b' '),
         2 => line.insert(end, b'-'),
@@ -214,9 +242,17 @@ fn malformed_line(random: &mut Random) -> Vec<u8> {
         4 => line[random.below(8)] = random.pick(b"/:@Gag\0\xFF"),
         5 => line.insert(random.below(end), b' '),
         6 => line.insert(6, b' '),
+        // an odd number of digits where pairs are asked for, and a data page with something that is no digit
+        7 => {
+            let kind = random.pick(&[0, 3, 4, 5, 8, 15]);
+            let count = 2 * length(random, MOST_ALPHANUMERIC) - 1;
+            line = line_of_digits(identity(random, ALL_FRAMES), kind, &digits(random, count));
+        }
         _ => {
-            let identity = identity(random, ALL_FRAMES);
-            line = format!("{identity:06X} {} {:05X}\n", random.pick(&[6, 7]), random.word() & 0xF_FFFF).into_bytes();
+            let kind = random.pick(DATA_KINDS);
+            line = page_of_kind(random, ALL_FRAMES, kind);
+            let at = random.between(9, line.len() - 2);
+            line[at] = random.pick(b"abcdefg/:@G-\0\xFF");
         }
     }
     if !line.ends_with(b"\n") {
@@ -269,8 +305,19 @@ fn bad_text(random: &mut Random, kind: u32) -> Vec<u8> {
     text
 }
 
+/// Digits of a data page that is declined with the given number, 13, 14 or 25, or whose identity declines it.
+fn faulty_digits(random: &mut Random, number: u32) -> Vec<u8> {
+    let count = match number {
+        13 => 0,
+        14 => GROUP * random.pick(&[85, 85, 86, 168, 200]),
+        25 => GROUP * random.pick(&[0, 0, 1, 83, 84, 84, 85, random.clone().below(100)]) + random.between(1, GROUP - 1),
+        _ => random.pick(&[0, 1, 4, 5, 6, 420, 421, 425]),
+    };
+    digits(random, count)
+}
+
 /// The numbers that a line is declined with, in the order of the tests.
-const LINE_NUMBERS: &[u32] = &[1, 2, 3, 4, 12, 13, 14, 6, 7];
+const LINE_NUMBERS: &[u32] = &[1, 2, 3, 4, 25, 12, 13, 14, 6, 7];
 
 /// A line that is declined with the given one of these numbers, and often has faults of later ones too.
 fn faulty_line(random: &mut Random, number: u32) -> Vec<u8> {
@@ -284,12 +331,17 @@ fn faulty_line(random: &mut Random, number: u32) -> Vec<u8> {
         _ => good,
     };
     let kind = match number {
-        2 | 3 => random.pick(&[0, 1, 2, 3, 4, 5, 6, 9, 15]),
-        4 => random.between(6, 15) as u32,
+        2 | 3 => random.pick(&[0, 1, 2, 3, 4, 5, 6, 7, 9, 15]),
+        4 => random.between(8, 15) as u32,
+        25 => random.pick(DATA_KINDS),
         12 => random.below(4) as u32,
+        13 | 14 => random.pick(&[4, 5, 6, 7]),
         7 => 4,
         _ => random.pick(&[4, 5]),
     };
+    if DATA_KINDS.contains(&kind) {
+        return line_of_digits(identity, kind, &faulty_digits(random, number));
+    }
     let text = match number {
         13 => vec![],
         14 => long_text(random, kind),
@@ -363,9 +415,10 @@ fn short_pages(random: &mut Random, count: usize) -> Vec<u8> {
     let mut job = Vec::new();
     for _ in 0..count {
         let identity = identity(random, ALL_FRAMES);
-        job.extend(match random.below(3) {
+        job.extend(match random.below(4) {
             0 => line(identity, 4, &numeric_text(random, 3)),
             1 => line(identity, 5, &alphanumeric_text(random, 2)),
+            2 => line_of_digits(identity, random.pick(DATA_KINDS), &digits(random, GROUP)),
             kind => line(identity, kind as u32, &[]),
         });
     }
@@ -381,7 +434,8 @@ fn pauses() -> Vec<Vec<u8>> {
         let message = line(8, 5, &vec![b'A'; 20 * words / 7]);
         let frame = (1 + words as u32) % 16 / 2;
         let next = (frame + 1) % 8;
-        let behind = [line(frame, 1, b""), line(frame, 4, b"1"), line(next, 2, b""), line(next, 5, b"AB")];
+        let data = line_of_digits(frame, 6, b"12345");
+        let behind = [line(frame, 1, b""), line(frame, 4, b"1"), line(next, 2, b""), line(next, 5, b"AB"), data];
         let mut longest = vec![message];
         for _ in 0..3 {
             longest = longest.iter().flat_map(|job| behind.iter().map(move |page| [&job[..], page].concat())).collect();
@@ -408,6 +462,27 @@ pub fn texts() -> Vec<Vec<u8>> {
                     text[bad] = 0;
                     push(kind, &text);
                 }
+            }
+        }
+    }
+    jobs.extend(digit_texts());
+    jobs
+}
+
+/// The same of digits as they are: so many that they are no group, one, 84 or 85, or nearly so, for data pages and for kinds that
+/// have pairs; all upper-case, with one in lower case, or with a `-` behind them.
+fn digit_texts() -> Vec<Vec<u8>> {
+    let mut jobs = vec![];
+    for kind in [4, 6, 7, 8] {
+        let mut push = |digits: &[u8]| jobs.push([line(7, 0, b""), line_of_digits(9, kind, digits)].concat());
+        for count in [0, 1, 4, 5, 6, 9, 10, 11, 415, 419, 420, 421, 424, 425, 426, 430] {
+            let digits: Vec<u8> = DIGITS.iter().copied().cycle().take(count).collect();
+            push(&digits);
+            push(&[&digits, &b"-"[..]].concat());
+            for at in [0, count / 2, count.saturating_sub(1)] {
+                let mut digits = digits.clone();
+                digits.iter_mut().skip(at).take(1).for_each(|digit| *digit = b'a');
+                push(&digits);
             }
         }
     }
@@ -440,6 +515,7 @@ pub fn limits() -> Vec<Vec<u8>> {
         for kind in 0..16 {
             jobs.push(line(identity, kind, &[]));
             jobs.push(line(identity, kind, b"1"));
+            jobs.push(line_of_digits(identity, kind, b"12345"));
         }
     }
     // kinds by lengths, good characters and bad, with and without a space at the end
@@ -466,7 +542,7 @@ pub fn limits() -> Vec<Vec<u8>> {
         }
     }
     // every byte put over or into every place of short lines, every byte taken out, every front
-    for model in [&b"000009 4 3132\n"[..], b"000009 0\n", b"000009 5 41\n000007 3\n"] {
+    for model in [&b"000009 4 3132\n"[..], b"000009 0\n", b"000009 5 41\n000007 3\n", b"000009 6 12345\n"] {
         for at in 0..=model.len() {
             for byte in 0..=255 {
                 let mut put_in = model.to_vec();
@@ -486,8 +562,8 @@ pub fn limits() -> Vec<Vec<u8>> {
             }
         }
     }
-    // odd digits for the kinds that only a reader prints
-    for kind in 4..8 {
+    // few digits, and so many that they are pairs, groups, both or neither
+    for kind in 4..9 {
         for digits in 0..12 {
             for end in ["\n", "-\n", " \n"] {
                 jobs.push(format!("000009 {kind} {}{end}", "1".repeat(digits)).into_bytes());
@@ -502,7 +578,7 @@ pub fn limits() -> Vec<Vec<u8>> {
     jobs.push(b"000009 5 4142\n".repeat(6_000));
     // line counts
     for count in [0, 1, 2, 47, 48, 49, 50, 100] {
-        for one in [&b"000007 0\n"[..], b"000003 4 31\n", b"000000 5 4142\n"] {
+        for one in [&b"000007 0\n"[..], b"000003 4 31\n", b"000000 5 4142\n", b"000002 7 12345\n"] {
             let job = one.repeat(count);
             for end in [&b""[..], b"\n", b"0", b"000007 0", b"200000 0\n", b"000007 9\n", b"\n\n", b"1EA270 0\n"] {
                 jobs.push([&job[..], end].concat());
@@ -510,7 +586,7 @@ pub fn limits() -> Vec<Vec<u8>> {
             if count > 0 {
                 jobs.push(job[..job.len() - 1].to_vec());
             }
-            for bad in [&b"200000 0\n"[..], b"\n", b"000007 1 31\n", b"000007 4 312A2A\n", b"000007 4 20\n"] {
+            for bad in [&b"200000 0\n"[..], b"\n", b"000007 1 31\n", b"000007 4 312A2A\n", b"000007 4 20\n", b"000007 6 1234\n"] {
                 jobs.push([bad, &job].concat());
                 jobs.push([&job[..], bad, &job].concat());
             }
@@ -530,11 +606,15 @@ mod tests {
     fn good_jobs_are_accepted() {
         let mut random = Random::new(1);
         let mut counts = BTreeSet::new();
+        let mut groups = BTreeSet::new();
         for _ in 0..3000 {
-            let job = good(&mut random);
-            counts.insert(parse(&job).unwrap().len());
+            let pages = parse(&good(&mut random)).unwrap();
+            counts.insert(pages.len());
+            groups.extend(pages.iter().filter(|page| page.kind > 5).map(|page| (page.kind, page.message_words())));
         }
         assert!(counts.contains(&1) && counts.contains(&48) && counts.len() > 30);
+        // data pages of every length
+        assert!(groups.into_iter().eq([6, 7].into_iter().flat_map(|kind| (1..=84).map(move |groups| (kind, groups)))));
     }
 
     #[test]
@@ -560,7 +640,7 @@ mod tests {
     #[test]
     fn every_refusal_is_met() {
         let mut random = Random::new(3);
-        let drawn: Vec<Vec<u8>> = (0..3000).map(|_| bad(&mut random)).collect();
+        let drawn: Vec<Vec<u8>> = (0..4000).map(|_| bad(&mut random)).collect();
         let (numbers, positions) = answers(&drawn);
         assert!(LINE_NUMBERS.iter().chain(&[0, 8]).all(|number| numbers.contains(number)), "{numbers:?}");
         assert!(positions.len() > 50, "{positions:?}");
@@ -568,7 +648,7 @@ mod tests {
         assert_eq!(numbers, LINE_NUMBERS.iter().copied().chain([0, 8, 9]).collect());
         assert_eq!(positions, (0..=240).collect());
         let (numbers, positions) = answers(&texts());
-        assert_eq!(numbers, [0, 6, 7, 12, 13, 14].into());
+        assert_eq!(numbers, [0, 1, 4, 6, 7, 12, 13, 14, 25].into());
         assert_eq!(positions, [0, 1, 2, 30, 31, 59, 60, 61, 120, 121, 239, 240].into());
     }
 
@@ -643,8 +723,8 @@ mod tests {
     #[test]
     fn the_largest_jobs() {
         let mut random = Random::new(4);
-        for frame in 0..8 {
-            let pages = parse(&maximal(&mut random, &[frame])).unwrap();
+        for job in (0..8).flat_map(|frame| [maximal, maximal_data].map(|maximal| maximal(&mut random, &[frame]))) {
+            let pages = parse(&job).unwrap();
             assert_eq!(pages.len(), 48);
             assert!(pages.iter().all(|page| page.message_words() == 84));
         }

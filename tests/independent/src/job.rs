@@ -1,20 +1,26 @@
 //! Page lines: a job's lines parsed, and page lines printed.
 
-use crate::{codeword, digit_value, number, text, Refusal, DIGITS};
+use crate::text::{self, GROUP_DIGITS};
+use crate::{codeword, digit_value, number, Refusal, DIGITS};
 
 pub const MOST_PAGES: usize = 48;
 
 pub const NUMERIC: u32 = 4;
 pub const ALPHANUMERIC: u32 = 5;
+/// Data pages, with function 1 and with function 2.
+pub const DATA_1: u32 = 6;
+pub const DATA_2: u32 = 7;
 pub const MOST_NUMERIC: usize = 60;
 pub const MOST_ALPHANUMERIC: usize = 240;
+pub const MOST_GROUPS: usize = 84;
 
 /// A page of an accepted job.
 #[derive(Clone, Debug, PartialEq, Eq)]
 pub struct Page {
     pub identity: u32,
-    /// The function of a tone, `NUMERIC` or `ALPHANUMERIC`.
+    /// The function of a tone, `NUMERIC`, `ALPHANUMERIC`, `DATA_1` or `DATA_2`.
     pub kind: u32,
+    /// A data page's text is its digits.
     pub text: Vec<u8>,
 }
 
@@ -27,6 +33,8 @@ impl Page {
         match self.kind {
             NUMERIC => 0,
             ALPHANUMERIC => 3,
+            DATA_1 => 1,
+            DATA_2 => 2,
             tone => tone,
         }
     }
@@ -40,6 +48,7 @@ impl Page {
         match self.kind {
             NUMERIC => self.text.len().div_ceil(5),
             ALPHANUMERIC => (7 * self.text.len()).div_ceil(20),
+            DATA_1 | DATA_2 => self.text.len() / GROUP_DIGITS,
             _ => 0,
         }
     }
@@ -50,6 +59,7 @@ impl Page {
         match self.kind {
             NUMERIC => text::pack_numeric(&self.text, words),
             ALPHANUMERIC => text::pack_alphanumeric(&self.text, words),
+            DATA_1 | DATA_2 => text::pack_digits(&self.text, words),
             _ => {}
         }
         for word in &mut words[start..] {
@@ -69,7 +79,7 @@ impl Page {
         if codeword::is_reserved(identity >> 3) {
             return Err(fault(3));
         }
-        if kind > ALPHANUMERIC {
+        if kind > DATA_2 {
             return Err(fault(4));
         }
         if let Some(number) = length_fault(kind, text.len()) {
@@ -92,16 +102,24 @@ impl Page {
     /// The page's line, put behind what is there.
     pub fn print(&self, out: &mut Vec<u8>) {
         print_head(self.identity, self.kind, out);
-        print_pairs(&self.text, out);
+        match self.kind {
+            DATA_1 | DATA_2 => {
+                out.push(b' ');
+                out.extend_from_slice(&self.text);
+            }
+            _ => print_pairs(&self.text, out),
+        }
         out.push(b'\n');
     }
 }
 
-/// What is wrong with the length of a kind's text, as a number.
+/// What is wrong with the length of a kind's text, as a number.
 fn length_fault(kind: u32, length: usize) -> Option<u32> {
     let most = match kind {
         NUMERIC => MOST_NUMERIC,
         ALPHANUMERIC => MOST_ALPHANUMERIC,
+        DATA_1 | DATA_2 if length % GROUP_DIGITS != 0 => return Some(25),
+        DATA_1 | DATA_2 => GROUP_DIGITS * MOST_GROUPS,
         _ => return (length > 0).then_some(12),
     };
     match length {
@@ -119,10 +137,18 @@ fn split(line: &[u8]) -> Option<(u32, u32, Vec<u8>)> {
     let kind = digit_value(line[7])?;
     let text = match &line[8..] {
         [] => Vec::new(),
-        [b' ', digits @ ..] if !digits.is_empty() => characters(digits)?,
+        [b' ', digits @ ..] if !digits.is_empty() => match kind {
+            DATA_1 | DATA_2 => all_digits(digits)?,
+            _ => characters(digits)?,
+        },
         _ => return None,
     };
     Some((identity, kind, text))
+}
+
+/// A data page's digits, however many.
+fn all_digits(digits: &[u8]) -> Option<Vec<u8>> {
+    digits.iter().all(|&byte| digit_value(byte).is_some()).then(|| digits.to_vec())
 }
 
 /// The characters that pairs of digits spell.
@@ -192,13 +218,24 @@ mod tests {
 
     #[test]
     fn a_line_there_and_back() {
-        let job = b"000009 4 3132\n1FFFFF 3\n000009 5 417F20\n";
+        let job = b"000009 4 3132\n1FFFFF 3\n000009 5 417F20\n000009 6 12345\n000009 7 00000FEDCB\n";
         let pages = parse(job).unwrap();
         assert_eq!(pages[0], Page { identity: 9, kind: 4, text: b"12".to_vec() });
         assert_eq!(pages[1], Page { identity: 0x1F_FFFF, kind: 3, text: vec![] });
+        assert_eq!(pages[3], Page { identity: 9, kind: 6, text: b"12345".to_vec() });
         let mut printed = Vec::new();
         pages.iter().for_each(|page| page.print(&mut printed));
         assert_eq!(printed, job);
+    }
+
+    /// Document 01's codewords, as those of data pages.
+    #[test]
+    fn codewords() {
+        let pages = parse(b"000000 6 84333\n000000 7 8433300000\n").unwrap();
+        assert_eq!([pages[0].address(), pages[1].address()], [0x0000_0ED3, 0x0000_1376]);
+        let mut words = vec![];
+        pages.iter().for_each(|page| page.push_message(&mut words));
+        assert_eq!(words, [0xC219_9DEA, 0xC219_9DEA, 0x8000_0769]);
     }
 
     #[test]
@@ -227,10 +264,18 @@ mod tests {
             "000009\t4 3132\n",
             "000009 4  3132\n",
             " 000009 4 3132\n",
-            "000009 6 12345\n",
+            "000009 6 \n",
             "000009 6 12345-\n",
+            "000009 6 12345 \n",
+            "000009 6 1234G\n",
+            "000009 6  12345\n",
+            "000009 7 abcde\n",
+            "000009 7 ABCDe\n",
+            "000009 612345\n",
             "20000a 4 3132\n",
             "200000 4 \n",
+            "200000 6 \n",
+            "200000 6 1234f\n",
             "000009 4 3132",
             "200000 9 3132",
             "0",
@@ -265,12 +310,29 @@ mod tests {
     #[test]
     fn kinds() {
         let text = "31".repeat(500);
-        for kind in ["6", "7", "8", "9", "A", "F"] {
+        for kind in ["8", "9", "A", "F"] {
             assert_eq!(fault(format!("000000 {kind}\n")), Some((4, 1)));
             assert_eq!(fault(format!("000000 {kind} {text}\n")), Some((4, 1)));
+            assert_eq!(fault(format!("000000 {kind} 1234512345\n")), Some((4, 1)));
         }
-        assert_eq!(fault("000000 6 1234512345\n"), Some((4, 1)));
         assert_eq!(fault("1EA270 9\n"), Some((3, 1)));
+    }
+
+    /// An odd number of digits is number 1 for every kind but a data page's.
+    #[test]
+    fn odd_digits() {
+        for (identity, digits, of_a_data_page) in [
+            ("000009", "12345", None),
+            ("000009", "123", Some((25, 1))),
+            ("200000", "12345", Some((2, 1))),
+            ("200000", "123", Some((2, 1))),
+            ("1EA270", "123", Some((3, 1))),
+        ] {
+            for kind in 0..16 {
+                let expected = if matches!(kind, DATA_1 | DATA_2) { of_a_data_page } else { Some((1, 1)) };
+                assert_eq!(fault(format!("{identity} {kind:X} {digits}\n")), expected, "{identity} {kind:X} {digits}");
+            }
+        }
     }
 
     /// A line without its newline.
@@ -296,6 +358,37 @@ mod tests {
                 // a wrong length comes before a bad character
                 let with_bad = if length > 0 { expected.or(Some(6)) } else { expected };
                 assert_eq!(number(0xFF), with_bad, "kind {kind}, {length} bad characters");
+            }
+        }
+    }
+
+    /// Whole groups of five digits, 1 to 84 of them: what is declined with which number, or how many message words there are.
+    #[test]
+    fn groups() {
+        for (digits, expected) in [
+            (0, Err(13)),
+            (1, Err(25)),
+            (4, Err(25)),
+            (5, Ok(1)),
+            (6, Err(25)),
+            (10, Ok(2)),
+            (415, Ok(83)),
+            (419, Err(25)),
+            (420, Ok(84)),
+            (421, Err(25)),
+            (424, Err(25)),
+            (425, Err(14)),
+            (426, Err(25)),
+            (850, Err(14)),
+        ] {
+            for kind in [DATA_1, DATA_2] {
+                let answer = |digit: &str| {
+                    let space = if digits > 0 { " " } else { "" };
+                    let job = format!("000000 {kind}{space}{}\n", digit.repeat(digits));
+                    parse(job.as_bytes()).map(|pages| pages[0].message_words()).map_err(|refusal| refusal.number)
+                };
+                assert_eq!(answer("A"), expected, "{digits} digits");
+                assert_eq!(answer("a"), if digits > 0 { Err(1) } else { expected }, "{digits} digits");
             }
         }
     }
@@ -344,7 +437,7 @@ mod tests {
             assert_eq!(fault(good.repeat(47) + behind).map(|fault| fault.1), Some(48));
         }
         assert_eq!(fault(good.repeat(47) + "200000 0\n" + &good.repeat(5)), Some((2, 48)));
-        assert_eq!(fault("000000 0\n000000 7\n000000 x\n"), Some((4, 2)));
+        assert_eq!(fault("000000 0\n000000 8\n000000 x\n"), Some((4, 2)));
         assert_eq!(fault(""), Some((9, 0)));
         assert_eq!(fault("\n"), Some((1, 1)));
     }

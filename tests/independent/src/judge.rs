@@ -131,14 +131,17 @@ impl Sent<'_> {
         match self.kind() {
             b'4' => b'0',
             b'5' => b'3',
+            b'6' => b'1',
+            b'7' => b'2',
             tone => tone,
         }
     }
 
-    /// Whether this begins the page's text: nothing, or the space and then pairs, at least one.
+    /// Whether this begins the page's text: nothing, or the space and then pairs, of a data page groups, at least one.
     fn has_front(&self, text: &[u8]) -> bool {
-        let pairs = text.len() >= 3 && text.len() % 2 == 1;
-        text.is_empty() || pairs && self.line[8..].starts_with(text)
+        let digits = if matches!(self.kind(), b'6' | b'7') { 5 } else { 2 };
+        let whole = text.len() > digits && text.len() % digits == 1;
+        text.is_empty() || whole && self.line[8..].starts_with(text)
     }
 }
 
@@ -225,6 +228,16 @@ mod tests {
         changed: Changes { slots: 27, syncs: 1 },
     };
 
+    /// Data pages with addresses in slots 0, 5, 9, 12 and 15. Lost are the last group of one, the first of one, the slot behind
+    /// one, and an address.
+    const THIRD: Day = Day {
+        job: b"000000 6 1234567890ABCDE\n000002 7 0000000000\n000004 6 FFFFF\n000006 7 ABCDE\n000007 6 12345\n",
+        lost: &[3, 6, 11, 15],
+        lines: "000000 6 1234567890-\n000002 2-\n000004 6 FFFFF-\n000006 7 ABCDE\n",
+        orphans: 2,
+        changed: Changes { slots: 26, syncs: 1 },
+    };
+
     impl Day {
         /// The words behind the preamble as received: three flips in the lost slots, none to two in the other words.
         fn received(&self, batches: &[u32]) -> Vec<u32> {
@@ -270,6 +283,7 @@ mod tests {
     fn lines_for_pages() {
         assert_eq!(FIRST.judged(|_| ()), Ok(()));
         assert_eq!(SECOND.judged(|_| ()), Ok(()));
+        assert_eq!(THIRD.judged(|_| ()), Ok(()));
         // one missing, doubled, added; one for the page whose address is lost
         assert_eq!(FIRST.with("000001 2\n", ""), Err(Broken::OneLineEach));
         assert_eq!(FIRST.with("000002 3-\n", ""), Err(Broken::OneLineEach));
@@ -331,6 +345,27 @@ mod tests {
         // R-9 leaves it free how much of the text is there
         for text in ["", " 31", " 3132", " 313233343536"] {
             assert_eq!(FIRST.with("000000 4 3132333435-", &format!("000000 4{text}-")), Ok(()));
+        }
+    }
+
+    #[test]
+    fn data_pages() {
+        assert_eq!(THIRD.with("7 ABCDE\n", "6 ABCDE\n"), Err(Broken::Whole));
+        assert_eq!(THIRD.with("7 ABCDE\n", "7 ABCDF\n"), Err(Broken::Whole));
+        assert_eq!(THIRD.with("FFFFF-", "FFFFF"), Err(Broken::Cut));
+        // no message word read
+        assert_eq!(THIRD.with("000002 2-", "000002 7-"), Err(Broken::Kind));
+        assert_eq!(THIRD.with("000002 2-", "000002 1-"), Err(Broken::Kind));
+        assert_eq!(THIRD.with("000002 2-", "000002 2 00000-"), Err(Broken::Text));
+        // some read
+        assert_eq!(THIRD.with("000000 6 1234567890-", "000000 1-"), Err(Broken::Kind));
+        assert_eq!(THIRD.with("000000 6", "000000 7"), Err(Broken::Kind));
+        for text in ["", " 12345", " 1234567890ABCDE"] {
+            assert_eq!(THIRD.with("000000 6 1234567890-", &format!("000000 6{text}-")), Ok(()));
+        }
+        // parts of a group, pairs among them; another digit; too many groups
+        for text in ["", "12", "1234", "123456", "123456789", "1234567890AB", "1234567891", "1234567890ABCDE00000"] {
+            assert_eq!(THIRD.with("1234567890-", &format!("{text}-")), Err(Broken::Text), "{text}");
         }
     }
 

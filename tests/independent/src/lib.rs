@@ -12,7 +12,7 @@ pub mod send;
 pub mod state;
 pub mod text;
 
-/// Why work is declined: a number of document 01's table as R-1 has it, and the place that goes with it.
+/// Why work is declined: a number of document 01's table as have it, and the place that goes with it.
 #[derive(Clone, Copy, Debug, PartialEq, Eq)]
 pub struct Refusal {
     pub number: u32,

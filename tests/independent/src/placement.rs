@@ -68,7 +68,7 @@ pub fn word_index(slot: u32) -> usize {
 #[cfg(test)]
 mod tests {
     use super::*;
-    use crate::job::ALPHANUMERIC;
+    use crate::job::{ALPHANUMERIC, DATA_1};
 
     fn tone(frame: u32) -> Page {
         Page { identity: frame, kind: 0, text: vec![] }
@@ -80,6 +80,10 @@ mod tests {
 
     fn alphanumeric(frame: u32, message_words: usize) -> Page {
         Page { identity: frame, kind: ALPHANUMERIC, text: vec![b'A'; 20 * message_words / 7] }
+    }
+
+    fn data(frame: u32, message_words: usize) -> Page {
+        Page { identity: frame, kind: DATA_1, text: vec![b'1'; 5 * message_words] }
     }
 
     fn placed(pages: &[Page]) -> (Vec<u32>, u32) {
@@ -131,6 +135,9 @@ mod tests {
         assert_eq!(placed(&[numeric(1, 1), numeric(3, 1)]), (vec![2, 6], 1));
         // a tone is followed by no pause
         assert_eq!(placed(&[tone(1), numeric(1, 1)]), (vec![2, 3], 1));
+        // a data page is a message like any other
+        assert_eq!(placed(&[data(1, 1), data(2, 1)]), (vec![2, 5], 1));
+        assert_eq!(placed(&[data(1, 84), tone(2)]), (vec![2, 100], 7));
     }
 
     #[test]

@@ -60,8 +60,8 @@ mod tests {
 
     #[test]
     fn page_lines_in_slot_order() {
-        let listing = sending(b"000006 1\n000000 0\n000003 4 31\n");
-        assert_eq!(reading(&listing), b"000000 0\n000003 4 31\n000006 1\n");
+        let listing = sending(b"000006 1\n000000 0\n000003 4 31\n000005 7 00000\n000002 6 12345\n");
+        assert_eq!(reading(&listing), b"000000 0\n000002 6 12345\n000003 4 31\n000005 7 00000\n000006 1\n");
     }
 
     #[test]
@@ -72,6 +72,7 @@ mod tests {
         assert_eq!(sending(b"000009 0\n000009 3 31\n"), b"refused 12 place 2\n");
         assert_eq!(sending(b"000009 4\n"), b"refused 13 place 1\n");
         assert_eq!(sending(format!("000009 4 {}\n", "2A".repeat(61)).as_bytes()), b"refused 14 place 1\n");
+        assert_eq!(sending(b"000009 0\n000009 6 3132\n"), b"refused 25 place 2\n");
         assert_eq!(sending(b"000009 0\n000009 4 31322A2A20\n"), b"refused 6 place 2 3\n");
         assert_eq!(sending(b"000009 4 3120\n"), b"refused 7 place 1\n");
         assert_eq!(reading(b""), b"refused 21 place 1\n");

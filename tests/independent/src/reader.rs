@@ -197,9 +197,9 @@ mod tests {
 
     #[test]
     fn what_was_sent_is_read() {
-        let job = b"000009 4 3132\n00000F 5 41\n000007 2\n";
-        let words = Accepted::new(job).unwrap().words();
-        assert_eq!(log(&words[18..]), ("000009 4 3132\n00000F 5 41\n000007 2\n".into(), 3, 0, 0));
+        let job = "000009 4 3132\n00000A 6 12345\n000004 7 00000FFFFF\n00000F 5 41\n000007 2\n";
+        let words = Accepted::new(job.as_bytes()).unwrap().words();
+        assert_eq!(log(&words[18..]), (job.into(), 5, 0, 0));
         let flipped: Vec<u32> = words[18..].iter().enumerate().map(|(i, word)| word ^ 1 << (i % 32) ^ 1 << (i * 7 % 31)).collect();
         assert_eq!(log(&flipped), log(&words[18..]));
     }

@@ -197,6 +197,7 @@ mod tests {
             long.clone() + "000000 2\n000001 1\n",
             long.repeat(48),
             "000001 4 31\n000002 4 31\n000002 2\n".to_owned(),
+            "000001 6 1234567890\n000002 7 ABCDE\n000002 2\n".to_owned(),
         ] {
             let words = Accepted::new(job.as_bytes()).unwrap().words();
             let mut sender = Sender::start(job.as_bytes()).unwrap();

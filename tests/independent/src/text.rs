@@ -1,4 +1,10 @@
-//! Numeric and alphanumeric texts as groups of 20 message bits, both ways.
+//! Texts as groups of 20 message bits: numeric and alphanumeric ones both ways, a data page's digits one way, since reading prints its
+//! groups as they are.
+
+use crate::number;
+
+/// How many digits of a data page are a group.
+pub const GROUP_DIGITS: usize = 5;
 
 /// Numeric characters by their four-bit value; the spare is shown as `*`.
 const NUMERIC: &[u8; 16] = b"0123456789*U -][";
@@ -76,6 +82,11 @@ pub fn pack_alphanumeric(text: &[u8], groups: &mut Vec<u32>) {
     }
 }
 
+/// Groups for a data page's digits, of which the first is the group's top four bits. There must be whole groups.
+pub fn pack_digits(digits: &[u8], groups: &mut Vec<u32>) {
+    groups.extend(digits.chunks_exact(GROUP_DIGITS).map(|five| number(five).expect("digits")));
+}
+
 /// The numeric text of groups, without its trailing spaces.
 pub fn unpack_numeric(groups: &[u32], text: &mut Vec<u8>) {
     let start = text.len();
@@ -128,6 +139,7 @@ mod tests {
     fn examples() {
         assert_eq!(packed(pack_numeric, b"12"), [0x84333]);
         assert_eq!(packed(pack_alphanumeric, b"A"), [0x82000]);
+        assert_eq!(packed(pack_digits, b"84333FFFFF0000A"), [0x84333, 0xF_FFFF, 0xA]);
     }
 
     #[test]

@@ -17,21 +17,26 @@ const RATES: &[usize] = &[2, 5, 20, 100, 500];
 const SLOW_DAYS: usize = 10;
 
 /// Jobs of one batch, for every set of lost slots.
-const SHORT: [&[u8]; 2] = [
+const SHORT: [&[u8]; 3] = [
     // in slot order: a numeric page whose first message word is spaces, a tone in its pause, directly behind that an alphanumeric
     // page, an idle pause and directly behind it a numeric page, and a tone in each of the last two slots
     b"00000F 2\n00000C 4 3132\n00000A 5 4142434445464748\n00000F 3\n000009 1\n000008 4 202020202031\n",
     // a message up to the last slot but one, and in its pause, the last slot, a tone
     b"000003 5 4142434445464748494A4B4C4D4E4F505152535455\n000007 0\n",
+    // data pages: in slot order one of two groups, a tone with its function in its pause, directly behind that one of three, an
+    // idle pause and directly behind it one of a group, and a tone in the last slot but one
+    b"00000F 2\n00000C 6 33333\n00000A 7 00000FFFFFABCDE\n000009 1\n000008 6 1234567890\n",
 ];
 
 /// Jobs of two batches, for many sets of lost slots.
-const LONGER: [&[u8]; 3] = [
+const LONGER: [&[u8]; 4] = [
     // a message that runs on behind a sync, and a tone in its pause
     b"000007 4 31323334353637\n000000 1\n000008 2\n000010 3\n",
     // messages that end in the last slot: a batch of idles follows
     b"00000F 4 31\n",
     b"000000 5 4142434445464748494A4B4C4D4E4F505152535455565758595A6162636465666768696A6B6C6D6E6F70\n",
+    // a data page that ends in the last slot and one that waits behind it
+    b"00000F 7 ABCDE\n000000 1\n000008 2\n000010 6 1234567890\n",
 ];
 
 /// A job as the library sent it.
@@ -167,9 +172,11 @@ mod tests {
     fn the_jobs_lie_as_they_should() {
         assert_eq!(placed(SHORT[0]), (vec![14, 9, 4, 15, 3, 0], 1, vec![0, 1, 3, 0, 0, 2]));
         assert_eq!(placed(SHORT[1]), (vec![6, 15], 1, vec![8, 0]));
+        assert_eq!(placed(SHORT[2]), (vec![14, 9, 4, 3, 0], 1, vec![0, 1, 3, 0, 2]));
         assert_eq!(placed(LONGER[0]), (vec![14, 0, 1, 17], 2, vec![2, 0, 0, 0]));
         assert_eq!(placed(LONGER[1]), (vec![14], 2, vec![1]));
         assert_eq!(placed(LONGER[2]), (vec![0], 2, vec![15]));
+        assert_eq!(placed(LONGER[3]), (vec![14, 0, 1, 17], 2, vec![1, 0, 0, 2]));
     }
 
     #[test]

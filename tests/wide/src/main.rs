@@ -132,6 +132,7 @@ fn limits(comparison: &mut Comparison) -> Outcome {
 fn largest(comparison: &mut Comparison) -> Outcome {
     let mut random = Random::new(0);
     let mut largest: Vec<Vec<u8>> = (0..8).map(|frame| jobs::maximal(&mut random, &[frame])).collect();
+    largest.push(jobs::maximal_data(&mut random, &[7]));
     largest.push(jobs::latest(&mut random));
     for job in largest {
         comparison.job(&job)?;

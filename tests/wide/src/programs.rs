@@ -47,6 +47,7 @@ impl Programs {
         for frame in 0..8 {
             self.send(comparison, &jobs::maximal(&mut random, &[frame]))?;
         }
+        self.send(comparison, &jobs::maximal_data(&mut random, &[7]))?;
         self.send(comparison, &jobs::latest(&mut random))?;
         let longest = generate::words::one_long_page(&mut random, 300);
         self.read(comparison, &listings::listing(36, 0, &longest))

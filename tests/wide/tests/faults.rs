@@ -15,7 +15,8 @@ fn without_a_mistake() {
 }
 
 /// Those that the judge finds before anything else does.
-const JUDGED: &[&str] = &["reads-31-bits", "whole-before-a-lost-word", "joined-behind-a-lost-word", "cut-keeps-its-kind"];
+const JUDGED: &[&str] =
+    &["reads-31-bits", "whole-before-a-lost-word", "joined-behind-a-lost-word", "cut-keeps-its-kind", "cut-within-a-group"];
 
 #[test]
 fn with_each_mistake() {

@@ -1,10 +1,10 @@
-//! What is said of a job that is declined, and the mistakes in the number and the position.
+//! What is said of a job that is declined, and the mistakes in the number and the position.
 
 use super::is;
 use independent::{job, Refusal};
 
 /// How many bytes of a line stand before its text.
-const HEAD: usize = 9;
+pub const HEAD: usize = 9;
 
 /// The refusal of a job, as it is rightly said or, for some mistakes, wrongly.
 pub fn said(job: &[u8], right: Refusal) -> Refusal {
@@ -14,6 +14,12 @@ pub fn said(job: &[u8], right: Refusal) -> Refusal {
     let line = job.split(|&byte| byte == b'\n').nth(place.saturating_sub(1)).unwrap_or_default();
     let (head, pairs) = line.split_at(line.len().min(HEAD));
     match number {
+        1 if is("odd-digits-after-4") && pairs.len() % 2 == 1 => {
+            refusal(head, &pairs[1..]).map(|even| even.number).filter(|number| (2..=4).contains(number)).map_or(right, with_number)
+        }
+        25 if is("25-after-14") && pairs.len() > 5 * 84 => with_number(14),
+        25 if is("position-with-25") => with_position(pairs.len() / 5 + 1),
+        13 if is("25-without-text") && matches!(line[7], b'6' | b'7') => with_number(25),
         12 if is("12-and-13-exchanged") => with_number(13),
         13 if is("12-and-13-exchanged") => with_number(12),
         12 if is("long-tone-is-14") && pairs.len() > 2 * 60 => with_number(14),
@@ -31,10 +37,14 @@ pub fn said(job: &[u8], right: Refusal) -> Refusal {
     }
 }
 
+/// Why a line is declined, if it is.
+fn refusal(head: &[u8], pairs: &[u8]) -> Option<Refusal> {
+    job::parse(&[head, pairs, b"\n"].concat()).err()
+}
+
 /// The position of a text's first bad character.
 fn first_bad(head: &[u8], pairs: &[u8]) -> Option<usize> {
-    let refusal = job::parse(&[head, pairs, b"\n"].concat()).err()?;
-    (refusal.number == 6).then_some(refusal.position)
+    refusal(head, pairs).filter(|refusal| refusal.number == 6).map(|refusal| refusal.position)
 }
 
 /// The position of a text's last bad character, which is the first where the text is turned round.
