@@ -64,7 +64,7 @@ functionOf kind = cond (eqb kind 4) 0 (cond (eqb kind 5) 3 (cond (eqb kind 6) 1 
 abbrev pub goodRun : ℕ → List ℕ → ℕ
 goodRun kind bytes = leading (charOk (codingOf kind)) bytes
 
--- they were counted in a text's digits, where it has characters at all
+-- so many of them were counted in the digits of a text, where it has characters and is no data
 abbrev pub Counted : ℕ → List ℕ → ℕ → Type 0
 Counted kind digits good = isData kind ≡ false → good ≡ goodRun kind (bytesOf digits)
 

@@ -35,7 +35,8 @@ pub enum Refusal {
     EmptyJob,
 }
 
-// A page: its identity, its kind, the byte of the job at which the digits of its text start, and how many they are.
+// A page: its identity, its kind, the byte of the job at which the digits of its text start, and how many they are. No byte of it is
+// unused, so that an array of them is cleared at once.
 pub struct Page {
     pub identity: u32,
     pub kind: u32,

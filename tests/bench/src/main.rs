@@ -117,13 +117,15 @@ impl Bench {
 
     fn sending(&mut self) {
         let maximal = jobs::maximal(&mut self.random, &[3]);
-        let mixed = jobs::pages(&mut self.random, 48, &[0, 1, 2, 3, 4, 5, 6, 7], &[0, 1, 2, 3, 4, 5]);
+        let mixed = jobs::pages(&mut self.random, 48, &[0, 1, 2, 3, 4, 5, 6, 7], &[0, 1, 2, 3, 4, 5, 6, 7]);
+        let data = jobs::maximal_data(&mut self.random, &[3]);
         let tones = jobs::pages(&mut self.random, 48, &[5], &[0]);
         for (name, job) in [
             ("1 numeric page of 10 characters", &b"12D687 4 30313233343536373839\n"[..]),
             ("48 tones in one frame", &tones),
             ("48 pages of every kind", &mixed),
             ("48 alphanumeric pages of 240 characters in one frame", &maximal),
+            ("48 data pages of 84 groups in one frame", &data),
         ] {
             self.send_row(name, job);
             self.list_row(name, job);
