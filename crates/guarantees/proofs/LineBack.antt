@@ -12,9 +12,7 @@ use Rattle.base.specs.Hex.{pairsOf}
 use Rattle.base.specs.Lines.{split, lineAt}
 use Rattle.base.proofs.HexLaws.{pairs-back}
 use Rattle.base.proofs.SearchLaws.{le-or-lt}
-use Rattle.text.specs.Coding.{groupsOf, groupsIn}
-use Rattle.text.specs.Fives.{fives, fivesIn}
-use Rattle.text.specs.Heard.{heardText}
+use Rattle.text.specs.Coding.{groupsOf}
 use Rattle.text.specs.declared.Coding.{Coding}
 use Rattle.text.specs.declared.Coding.the-variants.{Numeric, Alphanumeric}
 use Rattle.text.proofs.FivesBack.{fives-count, fives-back}

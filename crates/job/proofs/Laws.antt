@@ -1,6 +1,6 @@
 -- Laws of the definitions of `specs/`: what a line and a job say, case by case. Assumes nothing.
 use Prim.Native.Nat.{ℕ, _+_, _-_, _%_, _≤_, _<_}
-use mathlib.Core.Path.{_≡_, sym, ap, _∙_}
+use mathlib.Core.Path.{_≡_, ap, _∙_}
 use mathlib.Core.List.{List, [], _∷_}
 use mathlib.Core.Bool.{Bool, true, false, cond, not}
 use mathlib.Core.Logic.{_⊎_, ⊎-elim, inl, inr}
@@ -29,10 +29,6 @@ use Rattle.job.specs.declared.JobAnswer.the-variants.{Accepted, Refused}
 pub head-long : (l : List ℕ) → headFormed l ≡ true → 8 ≤ length l
 unfolding headFormed
 head-long l e = leb-true 8 (length l) (and-true (leb 8 (length l)) _ e .0)
-
-pub formed-long : (l : List ℕ) → wellFormed l ≡ true → 8 ≤ length l
-unfolding wellFormed
-formed-long l e = head-long l (and-true (headFormed l) _ e .0)
 
 -- A text that has its form is digits, at least one, all of them upper-case; pairs are an even number.
 pub digits-some : (t : List ℕ) → isDigits t ≡ true → 0 < length t

@@ -1,5 +1,5 @@
 -- `sender::lay_out` meets its contract. The invariant: the pages passed are laid out. Assumes nothing.
-use Prim.Native.Nat.{ℕ, _+_, _≤_, _-_, _/_}
+use Prim.Native.Nat.{ℕ, _+_, _≤_, _-_}
 use mathlib.Core.Path.{_≡_, refl, sym, ap, _∙_}
 use mathlib.Core.List.{List}
 use native.Mathlib.Omega.{arith}

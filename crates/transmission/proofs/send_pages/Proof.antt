@@ -1,6 +1,6 @@
 -- `transmission::send_pages` meets its contract. The invariant: the first k frames and counts stand. Assumes nothing.
 use mathlib.Core.Path.{_≡_, refl, sym, ap, _∙_}
-use Prim.Native.Nat.{ℕ, _+_, _*_, _≤_, _-_, _%_, _/_}
+use Prim.Native.Nat.{ℕ, _+_, _*_, _≤_, _-_, _%_}
 use mathlib.Core.List.{List}
 use native.Mathlib.Omega.{arith}
 use borrow.Author.Needs.{needs}
