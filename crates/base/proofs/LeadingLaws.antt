@@ -1,13 +1,13 @@
 -- Laws of `leading`. A loop that counts the leading elements that pass has for its invariant that what is counted, and what
 -- there is from there on, make the whole. Assumes nothing.
-use Prim.Native.Nat.{ℕ, zero, suc, _+_, _≤_, _<_}
+use Prim.Native.Nat.{ℕ, zero, suc, _+_, _≤_, _<_, min}
 use mathlib.Core.Path.{_≡_, refl}
 use mathlib.Core.List.{List, [], _∷_}
 use mathlib.Core.Bool.{Bool, true, false, cond}
 use mathlib.Core.Logic.{⊎-elim}
 use native.Mathlib.Numerals.{add-one}
 use native.Mathlib.Omega.{arith}
-use lib.ListN.{length, getD, drop, drop-of-length-le}
+use lib.ListN.{length, getD, take, drop, drop-of-length-le}
 use lib.Seq.{drop-cons}
 use Rattle.base.specs.Leading.{leading}
 use Rattle.base.proofs.Bools.{either}
@@ -46,6 +46,12 @@ leading-behind p s zero h = omega arith
 leading-behind p [] (suc k) h = absurd (omega arith)
 leading-behind p (b ∷ s) (suc k) h =
     ⊎-elim (λ (e : p b ≡ true). let g = rw e at h in rw e (omega (arith, leading-behind p s k (omega arith)))) (λ (e : p b ≡ false). let g = rw e at h in absurd (omega arith)) (either (p b))
+
+-- in the first m elements
+pub leading-take : (p : ℕ → Bool) (s : List ℕ) (m : ℕ) → leading p (take m s) ≡ min m (leading p s)
+leading-take p s zero = omega arith
+leading-take p [] (suc m) = omega arith
+leading-take p (b ∷ s) (suc m) = ⊎-elim (λ e. rw e (omega (arith, leading-take p s m))) (λ e. rw e (omega arith)) (either (p b))
 
 -- where all pass, the first does, and all others
 pub leading-cons : (p : ℕ → Bool) (b : ℕ) (s : List ℕ) → length (b ∷ s) ≤ leading p (b ∷ s) → (p b ≡ true) × (length s ≤ leading p s)

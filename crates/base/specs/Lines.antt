@@ -2,7 +2,7 @@
 use Prim.Native.Nat.{ℕ, zero, suc, _+_}
 use mathlib.Core.List.{List, [], _∷_}
 use mathlib.Core.Bool.{Bool, cond, not}
-use lib.ListN.{drop}
+use lib.ListN.{length, drop}
 use lib.Dec.{eqb}
 use Rattle.base.specs.Leading.{leading}
 
@@ -26,6 +26,17 @@ unfoldable pub lineAt : ℕ → Lines → List ℕ
 lineAt p (behind s) = []
 lineAt zero (line l ls) = l
 lineAt (suc p) (line l ls) = lineAt p ls
+
+-- how many lines there are
+unfoldable pub lineCount : Lines → ℕ
+lineCount (behind s) = 0
+lineCount (line l ls) = suc (lineCount ls)
+
+-- the byte at which the line at index p starts; 0 where there is none
+unfoldable pub lineStart : ℕ → Lines → ℕ
+lineStart p (behind s) = 0
+lineStart zero (line l ls) = 0
+lineStart (suc p) (line l ls) = length l + 1 + lineStart p ls
 
 abbrev pub notNewline : ℕ → Bool
 notNewline b = not (eqb b 10)

@@ -5,6 +5,7 @@ ghost use lib.ListN.{length, getD, take, drop};
 ghost use Rattle.base.specs.Hex.{isHex, hexOf, digitValue, digitOf, hexNumber, hexWord, digitsOf, bytesOf};
 ghost use Rattle.base.specs.Leading.{leading};
 ghost use Rattle.base.specs.Lines.{lineEnd};
+ghost use Rattle.base.specs.Part.{PointsInto};
 
 // What a slice of bytes writes.
 pub enum HexWord {
@@ -147,12 +148,14 @@ pub fn line_end(s: &[u8], at: usize) -> usize
     i
 }
 
-// A part of a slice: so many bytes from start on, or what is left of them.
+// A part of a slice, no copy: so many bytes from start on, or what is left of them.
 pub fn part(s: &[u8], start: usize, length: usize) -> &[u8]
+    ensures { λ r. ⌜ PointsInto r (s .entry) start ⌝ }
     ensures { λ r. ⌜ now r ≡ take length (drop start (now (s .entry))) ⌝ }
 {
     if s.len() < start {
-        return &s[..0];
+        let n = s.len();
+        return &s[n..];
     }
     let left = s.len() - start;
     if left < length {

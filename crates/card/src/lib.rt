@@ -4,6 +4,7 @@ ghost use lib.ListN.{length};
 ghost use Rattle.base.specs.Lists.{over};
 ghost use Rattle.codeword.specs.Answer.{answer};
 ghost use Rattle.codeword.specs.Nearest.{nearest};
+ghost use Rattle.job.specs.Submission.{withBook};
 ghost use Rattle.transmission.specs.Sending.{sendingsOf};
 ghost use Rattle.transmission.specs.Report.{reportOf, wordsSent, slotsSent};
 ghost use Rattle.job_listing.specs.Listed.{listingText, listedOf, bytesListed};
@@ -155,14 +156,19 @@ fn report_numbers(r: Report) -> CardReport
     }
 }
 
-// Sends a job into lent words and slots.
+// Sends a job with its phrase book, which is empty where there is none, into lent words and slots.
 #[no_mangle]
-pub extern "C" fn card_send(job: &[u8], words: &mut [u32], slots: &mut [u32]) -> CardReport
-    ensures { λ r. ⌜ r ≡ reportFor (reportOf (now (job .entry)) (length (now (words .entry))) (length (now (slots .entry)))) ⌝ }
-    ensures { λ _. ⌜ now (words .exit) ≡ over (now (words .entry)) (wordsSent (reportOf (now (job .entry)) (length (now (words .entry))) (length (now (slots .entry)))) (sendingsOf (now (job .entry)))) ⌝ }
-    ensures { λ _. ⌜ now (slots .exit) ≡ over (now (slots .entry)) (slotsSent (reportOf (now (job .entry)) (length (now (words .entry))) (length (now (slots .entry)))) (sendingsOf (now (job .entry)))) ⌝ }
+pub extern "C" fn card_send<'a>(
+    job: &'a [u8],
+    book: &'a [u8],
+    words: &mut [u32],
+    slots: &mut [u32],
+) -> CardReport
+    ensures { λ r. ⌜ r ≡ reportFor (reportOf (withBook (now (job .entry)) (now (book .entry))) (length (now (words .entry))) (length (now (slots .entry)))) ⌝ }
+    ensures { λ _. ⌜ now (words .exit) ≡ over (now (words .entry)) (wordsSent (reportOf (withBook (now (job .entry)) (now (book .entry))) (length (now (words .entry))) (length (now (slots .entry)))) (sendingsOf (withBook (now (job .entry)) (now (book .entry))))) ⌝ }
+    ensures { λ _. ⌜ now (slots .exit) ≡ over (now (slots .entry)) (slotsSent (reportOf (withBook (now (job .entry)) (now (book .entry))) (length (now (words .entry))) (length (now (slots .entry)))) (sendingsOf (withBook (now (job .entry)) (now (book .entry))))) ⌝ }
 {
-    let report = transmission::send(job, words, slots);
+    let report = transmission::send(job, book, words, slots);
     report_numbers(report)
 }
 
@@ -195,13 +201,13 @@ fn listed_numbers(a: Listed) -> CardBytes
     }
 }
 
-// Writes a job's listing over the front of lent bytes.
+// Writes the listing of a job with its phrase book, which is empty where there is none, over the front of lent bytes.
 #[no_mangle]
-pub extern "C" fn card_list(job: &[u8], out: &mut [u8]) -> CardBytes
-    ensures { λ r. ⌜ r ≡ bytesFor (listedOf (now (job .entry)) (length (now (out .entry)))) ⌝ }
-    ensures { λ _. ⌜ now (out .exit) ≡ over (now (out .entry)) (bytesListed (listedOf (now (job .entry)) (length (now (out .entry)))) (listingText (now (job .entry)))) ⌝ }
+pub extern "C" fn card_list<'a>(job: &'a [u8], book: &'a [u8], out: &mut [u8]) -> CardBytes
+    ensures { λ r. ⌜ r ≡ bytesFor (listedOf (withBook (now (job .entry)) (now (book .entry))) (length (now (out .entry)))) ⌝ }
+    ensures { λ _. ⌜ now (out .exit) ≡ over (now (out .entry)) (bytesListed (listedOf (withBook (now (job .entry)) (now (book .entry))) (length (now (out .entry)))) (listingText (withBook (now (job .entry)) (now (book .entry))))) ⌝ }
 {
-    let listed = job_listing::list_job(job, out);
+    let listed = job_listing::list_job(job, book, out);
     listed_numbers(listed)
 }
 
@@ -293,18 +299,19 @@ pub extern "C" fn card_read_listing_slowly(listing: &[u8], out: &mut [u8]) -> Ca
     read_listing(Engine::Slow, listing, out)
 }
 
-// A job started over a state of this cursor, these pages and these flags, whose message words are lent: a declined job leaves all
-// as it was.
-fn begin(
-    job: &[u8],
+// A job with its phrase book started over a state of this cursor, these pages and these flags, whose message words are lent: a declined
+// job leaves all as it was.
+fn begin<'a>(
+    job: &'a [u8],
+    book: &'a [u8],
     cursor: Cursor,
     table: PageTable,
     sent: [u8; 48],
     words: &mut [u32; 4032],
 ) -> Begun
-    ensures { λ r. ⌜ (r .refusal ≡ refusalFor (startedOf (now (job .entry)) .answer)) × (stateFrom (r .pages) (r .sent) (r .cursor) (now (words .exit)) ≡ stateFor (startedOf (now (job .entry)) .answer) (startedOf (now (job .entry)) .state) (stateFrom table sent cursor (now (words .entry)))) ⌝ }
+    ensures { λ r. ⌜ (r .refusal ≡ refusalFor (startedOf (withBook (now (job .entry)) (now (book .entry))) .answer)) × (stateFrom (r .pages) (r .sent) (r .cursor) (now (words .exit)) ≡ stateFor (startedOf (withBook (now (job .entry)) (now (book .entry))) .answer) (startedOf (withBook (now (job .entry)) (now (book .entry))) .state) (stateFrom table sent cursor (now (words .entry)))) ⌝ }
 {
-    let opening = sender::start_with(job, words);
+    let opening = sender::start_with(job, book, words);
     let answer = opening.answer;
     let place = job::place(answer);
     let position = job::position(answer);
@@ -335,15 +342,16 @@ fn begin(
     }
 }
 
-// Starts a job's sending in the state that the caller keeps. The message words are written where they lie.
+// Starts the sending of a job with its phrase book, which is empty where there is none, in the state that the caller keeps. The message
+// words are written where they lie.
 #[no_mangle]
-pub extern "C" fn card_start(job: &[u8], state: &mut Sender) -> CardRefusal
-    ensures { λ r. ⌜ (r ≡ refusalFor (startedOf (now (job .entry)) .answer)) × (now (state .exit) ≡ stateFor (startedOf (now (job .entry)) .answer) (startedOf (now (job .entry)) .state) (now (state .entry))) ⌝ }
+pub extern "C" fn card_start<'a>(job: &'a [u8], book: &'a [u8], state: &mut Sender) -> CardRefusal
+    ensures { λ r. ⌜ (r ≡ refusalFor (startedOf (withBook (now (job .entry)) (now (book .entry))) .answer)) × (now (state .exit) ≡ stateFor (startedOf (withBook (now (job .entry)) (now (book .entry))) .answer) (startedOf (withBook (now (job .entry)) (now (book .entry))) .state) (now (state .entry))) ⌝ }
 {
     let cursor = state.cursor;
     let pages = state.pages;
     let sent = state.sent;
-    let begun = begin(job, cursor, pages, sent, &mut state.words);
+    let begun = begin(job, book, cursor, pages, sent, &mut state.words);
     state.cursor = begun.cursor;
     state.pages = begun.pages;
     state.sent = begun.sent;

@@ -8,6 +8,7 @@ use native.Mathlib.Omega.{arith}
 use lib.ListN.{length}
 use lib.Dec.{ltb}
 use borrow.Author.Tests.{le-ltb}
+use Rattle.job.specs.Submission.{Submission}
 use Rattle.job.specs.Job.{jobOf}
 use Rattle.job.specs.declared.JobAnswer.{JobAnswer}
 use Rattle.job.specs.declared.JobAnswer.the-variants.{Accepted, Refused}
@@ -37,7 +38,7 @@ by-report (Sent b m) e = (b, m, refl)
 by-report (Declined why place) e = absurd (refused-not 0 refl why e)
 by-report NoRoom e = absurd (omega arith)
 
-module _ (s : List ℕ) where
+module _ (s : Submission) where
   accepted-only : (words slots : ℕ) → OnlyRoom (reportOf s words slots) → (n : ℕ) × (jobOf s ≡ Accepted n)
   unfolding reportOf
   accepted-only words slots h = by-number (jobOf s) (sendingsOf s) words slots h

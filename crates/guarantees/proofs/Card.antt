@@ -5,6 +5,7 @@ use Prim.Native.Nat.{ℕ, zero, suc}
 use native.Mathlib.Omega.{arith}
 use lib.ListN.{length, take, replicate, length-map}
 use Rattle.base.specs.Lists.{over}
+use Rattle.job.specs.Submission.{Submission}
 use Rattle.job.specs.declared.JobAnswer.{JobAnswer}
 use Rattle.job.specs.declared.JobAnswer.the-variants as job-answer
 use Rattle.transmission.specs.Sending.{sendingsOf}
@@ -36,7 +37,7 @@ by-number (Sent b m) e = refl
 by-number (Declined why place) e = absurd (refused-not 0 refl why e)
 by-number NoRoom e = absurd (omega arith)
 
-as-call : (s w₀ t₀ w t : List ℕ) (r : CardReport) → CardSend s w₀ t₀ r w t → r .number ≡ 0 → Call s w₀ t₀ (Sent (r .batches) (r .words)) w t
+as-call : (s : Submission) (w₀ t₀ w t : List ℕ) (r : CardReport) → CardSend s w₀ t₀ r w t → r .number ≡ 0 → Call s w₀ t₀ (Sent (r .batches) (r .words)) w t
 as-call s w₀ t₀ w t r call e =
     let a = reportOf s (length w₀) (length t₀) in
     let is : a ≡ Sent (r .batches) (r .words) =
@@ -54,7 +55,7 @@ accepted : (a : JobAnswer) (new old : Sender) → refusalFor a .number ≡ 0 →
 accepted (job-answer.Accepted n) new old e = (n, refl, refl)
 accepted (job-answer.Refused why place) new old e = absurd (refused-not 0 refl why e)
 
-as-start : (s : List ℕ) (old : Sender) (r : CardRefusal) (u : Sender) → CardStart s old r u → r .number ≡ 0
+as-start : (s : Submission) (old : Sender) (r : CardRefusal) (u : Sender) → CardStart s old r u → r .number ≡ 0
     → (n : ℕ) × StartCall s (job-answer.Accepted n) u
 as-start s old r u call e =
     let z = startedOf s in
@@ -102,7 +103,7 @@ card-stepping words s h =
           h .at-rest (r .0) t (r .1) (omega arith) (stepOf t .answer) u (inPlace (stepOf t .answer) u refl (c .state));
     }
 
-pub card-demand3 : (s : List ℕ) → CardDemand3 s
+pub card-demand3 : (s : Submission) → CardDemand3 s
 card-demand3 s =
     record {
       sending = λ w₀ t₀ w t r call e. demand3 s .sending w₀ t₀ w t (r .batches) (r .words) (as-call s w₀ t₀ w t r call e);

@@ -12,6 +12,7 @@ use Rattle.base.specs.Search.{sum}
 use Rattle.base.proofs.ListLaws.{over-length}
 use Rattle.base.proofs.SearchLaws.{sum-cong}
 use Rattle.codeword.specs.Code as code
+use Rattle.job.specs.Submission.{Submission}
 use Rattle.job.specs.Job.{jobOf}
 use Rattle.job.specs.declared.JobAnswer.the-variants.{Accepted}
 use Rattle.placement.specs.Placement.{Job, contentAt, slotOf, slots}
@@ -33,7 +34,7 @@ use Rattle.guarantees.proofs.Reported.{Reported, reported}
 pub front-fits : (old new : List ℕ) {n : ℕ} → length new ≡ n → n ≤ length old → n ≤ length (over old new)
 front-fits old new e h = omega (arith, over-length old new (omega arith))
 
-module _ (s : List ℕ) (n : ℕ) (ok : jobOf s ≡ Accepted n) where
+module _ (s : Submission) (n : ℕ) (ok : jobOf s ≡ Accepted n) where
   abbrev job : Job
   job = placementOf (sendingsOf s)
 

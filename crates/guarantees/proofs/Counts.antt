@@ -6,13 +6,13 @@ use Prim.Native.Nat.{ℕ, _≤_, _<_}
 use native.Mathlib.Omega.{arith}
 use lib.ListN.{length}
 use borrow.Author.Tests.{le-leb, lt-leb, ne-eqb, eq-eqb}
-use Rattle.base.specs.Lines.{split, lineAt}
 use Rattle.base.proofs.HexLaws.{bytes-length}
 use Rattle.base.proofs.SearchLaws.{le-or-lt}
 use Rattle.text.specs.Coding.{groupsOf}
+use Rattle.job.specs.Submission.{Submission}
 use Rattle.job.specs.Line.{codingOf, kindOf, textDigits, textOf}
 use Rattle.job.specs.Message.{countFrom}
-use Rattle.job.specs.Pages.{pageAt, digitsAt}
+use Rattle.job.specs.Pages.{pageAt, digitsAt, plainAt}
 use Rattle.job.specs.Job.{jobOf}
 use Rattle.job.specs.Accepted.{Sound}
 use Rattle.job.specs.declared.JobAnswer.the-variants.{Accepted}
@@ -47,12 +47,12 @@ count-of l q = ⊎-elim coded grouped (le-or-lt (kindOf l) 5)
         count-data kind (length (textDigits l)) (is-data kind h (q .known))
         ∙ rw (lt-leb kind 3 (omega arith), ne-eqb kind 4 (λ e. omega arith), ne-eqb kind 5 (λ e. omega arith))
 
-module _ (s : List ℕ) (n : ℕ) (ok : jobOf s ≡ Accepted n) where
+module _ (s : Submission) (n : ℕ) (ok : jobOf s ≡ Accepted n) where
   pub groups-count : (i : ℕ) → i < n → length (page s i .groups) ≡ count s i
   groups-count i l =
       let a = accepted-job s n ok in
       let p = a .page i l in
-      from-count (pageAt s i .kind) (digitsAt s i) ∙ rw (p .kind-is, p .digits-are) (count-of (lineAt i (split s)) (a .sound i l))
+      from-count (pageAt s i .kind) (digitsAt s i) ∙ rw (p .kind-is, p .digits-are) (count-of (plainAt s i) (a .sound i l))
 
   -- the same of its sending
   pub sent-count : (i : ℕ) → i < n → length (sendingAt (sendingsOf s) i .groups) ≡ count s i

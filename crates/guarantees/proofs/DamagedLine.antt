@@ -11,6 +11,7 @@ use lib.Seq.{take-all}
 use borrow.Author.Tests.{lt-ltb, le-ltb, ltb-true, ltb-false}
 use Rattle.base.proofs.Bools.{true-false}
 use Rattle.base.proofs.SearchLaws.{Least, least-is, least-only, le-or-lt}
+use Rattle.job.specs.Submission.{Submission}
 use Rattle.job.specs.Line.{functionOf}
 use Rattle.job.specs.Pages.{pageAt, digitsAt}
 use Rattle.job.specs.Print.{printed}
@@ -30,7 +31,7 @@ use Rattle.guarantees.proofs.LineBack.{HeardBack, page-back, line-back}
 use Rattle.guarantees.proofs.Counts.{groups-count, sent-count}
 use Rattle.guarantees.proofs.Dash.{printed-dash}
 
-module _ (s words : List ℕ) (p : ℕ) where
+module _ (s : Submission) (words : List ℕ) (p : ℕ) where
   pub not-lost : slotFlips s words p ≤ 2 → slotLost s words p ≡ false
   not-lost h = le-ltb 2 (slotFlips s words p) h
 
@@ -38,10 +39,10 @@ module _ (s words : List ℕ) (p : ℕ) where
   few e = ltb-false 2 (slotFlips s words p) e
 
 -- the line of page i, as far as it is read
-abbrev pub lineRead : List ℕ → List ℕ → ℕ → List ℕ
+abbrev pub lineRead : Submission → List ℕ → ℕ → List ℕ
 lineRead s words i = lineHeard (hearingIn (slotLost s words) (sendingsOf s) i)
 
-module _ (s : List ℕ) (n : ℕ) (ok : jobOf s ≡ Accepted n) (most : ℕ) (three : most ≤ 3) (words : List ℕ)
+module _ (s : Submission) (n : ℕ) (ok : jobOf s ≡ Accepted n) (most : ℕ) (three : most ≤ 3) (words : List ℕ)
     (rec : Received most (transmissionOf (sendingsOf s)) words) (i : ℕ) (l : i < n) (address-read : slotFlips s words (addressSlot s i) ≤ 2) where
   abbrev m : ℕ
   m = reach (slotLost s words) (sendingsOf s) i

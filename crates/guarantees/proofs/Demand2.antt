@@ -5,6 +5,7 @@ use Prim.Native.Nat.{ℕ, _≤_}
 use native.Mathlib.Omega.{arith}
 use lib.ListN.{length, getD, drop, length-map}
 use lib.Seq.{take-append-seam}
+use Rattle.job.specs.Submission.{Submission}
 use Rattle.job.specs.Job.{jobOf}
 use Rattle.job.specs.declared.JobAnswer.the-variants.{Accepted}
 use Rattle.transmission.specs.Sending.{sendingsOf, sendingAt, placementOf}
@@ -29,7 +30,7 @@ use Rattle.guarantees.proofs.Reported.{reported}
 
 -- ---- an accepted job
 
-module _ (s : List ℕ) (n : ℕ) (ok : jobOf s ≡ Accepted n) where
+module _ (s : Submission) (n : ℕ) (ok : jobOf s ≡ Accepted n) where
   pub ordered : InOrder (placementOf (sendingsOf s)) (inSlotOrder s)
   ordered = in-order (placementOf (sendingsOf s)) (sendable (accepted-sendings s n ok) .framed)
 
@@ -67,7 +68,7 @@ demand2 s n ok words rec = same-pages s n ok words rec (omega arith)
 
 -- ---- from what `send` reports
 
-module _ (s old : List ℕ) (slots b m : ℕ) (sent : reportOf s (length old) slots ≡ Sent b m) where
+module _ (s : Submission) (old : List ℕ) (slots b m : ℕ) (sent : reportOf s (length old) slots ≡ Sent b m) where
   pub front : wordsLeft s old slots m ≡ transmissionOf (sendingsOf s)
   front =
       let n : m ≡ length (transmissionOf (sendingsOf s)) =

@@ -4,12 +4,13 @@ use mathlib.Core.List.{List}
 use Prim.Native.Nat.{ℕ}
 use lib.ListN.{length}
 use Rattle.sender.proofs.Stepping.{job-stepping}
+use Rattle.job.specs.Submission.{Submission}
 use Rattle.guarantees.specs.Demand3.{Demand3}
 use Rattle.guarantees.proofs.Reported.{reported}
 use Rattle.guarantees.proofs.Acceptance.{acceptance}
 use Rattle.guarantees.proofs.Carried.{carried}
 
-pub demand3 : (s : List ℕ) → Demand3 s
+pub demand3 : (s : Submission) → Demand3 s
 demand3 s =
     record {
       acceptance = acceptance s;

@@ -9,7 +9,6 @@ use native.Mathlib.Omega.{arith}
 use lib.ListN.{length}
 use borrow.Author.Tests.{ne-eqb}
 use Rattle.base.specs.Hex.{pairsOf}
-use Rattle.base.specs.Lines.{split, lineAt}
 use Rattle.base.proofs.HexLaws.{pairs-back}
 use Rattle.base.proofs.SearchLaws.{le-or-lt}
 use Rattle.text.specs.Coding.{groupsOf}
@@ -18,9 +17,10 @@ use Rattle.text.specs.declared.Coding.the-variants.{Numeric, Alphanumeric}
 use Rattle.text.proofs.FivesBack.{fives-count, fives-back}
 use Rattle.text.proofs.GroupLaws.{groups-length}
 use Rattle.text.proofs.TextBack.{text-back}
+use Rattle.job.specs.Submission.{Submission}
 use Rattle.job.specs.Line.{isData, codingOf, functionOf, identityOf, kindOf, textDigits, textOf}
 use Rattle.job.specs.Message.{groupsFrom}
-use Rattle.job.specs.Pages.{pageAt, digitsAt}
+use Rattle.job.specs.Pages.{pageAt, digitsAt, plainAt}
 use Rattle.job.specs.Print.{printed}
 use Rattle.job.specs.Job.{jobOf}
 use Rattle.job.specs.declared.JobAnswer.the-variants.{Accepted}
@@ -90,11 +90,11 @@ module _ (l : List ℕ) (s : Sound l) where
   heard-back : HeardBack kind digits
   heard-back = ⊎-elim coded-back data-back (le-or-lt kind 5)
 
-pub page-back : (s : List ℕ) (n : ℕ) → jobOf s ≡ Accepted n → (p : ℕ) → p < n → HeardBack (pageAt s p .kind) (digitsAt s p)
+pub page-back : (s : Submission) (n : ℕ) → jobOf s ≡ Accepted n → (p : ℕ) → p < n → HeardBack (pageAt s p .kind) (digitsAt s p)
 page-back s n ok p h =
     let a = accepted-job s n ok in
     let r = a .page p h in
-    rw (r .kind-is, r .digits-are) (heard-back (lineAt p (split s)) (a .sound p h))
+    rw (r .kind-is, r .digits-are) (heard-back (plainAt s p) (a .sound p h))
 
 -- ---- the line
 
@@ -115,4 +115,4 @@ pub line-back : LineBack
 line-back s n ok p h =
     let a = accepted-job s n ok in
     let r = a .page p h in
-    rw (sending-at s p, r .identity-is, r .kind-is, r .digits-are) (line-heard (lineAt p (split s)) (a .sound p h))
+    rw (sending-at s p, r .identity-is, r .kind-is, r .digits-are) (line-heard (plainAt s p) (a .sound p h))

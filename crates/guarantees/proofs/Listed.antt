@@ -10,6 +10,7 @@ use Rattle.base.proofs.SearchLaws.{sum-cong, sum-zeros}
 use Rattle.codeword.proofs.NearestLaws.{distance-self}
 use Rattle.job.proofs.RefusalLaws.{refused-not}
 use Rattle.placement.specs.Placement.{batches}
+use Rattle.job.specs.Submission.{Submission}
 use Rattle.transmission.specs.Sending.{Sending, sendingsOf, placementOf}
 use Rattle.transmission.specs.Transmission.{transmissionOf}
 use Rattle.transmission.specs.Transmitted.{slotIndex}
@@ -48,7 +49,7 @@ listing-back s n ok room =
 
 -- ---- what is written
 
-by-list-job : (s old left : List ℕ) (n : ℕ) → ListJob s old (Written n) left → ReadAfterListing s n left
+by-list-job : (s : Submission) (old left : List ℕ) (n : ℕ) → ListJob s old (Written n) left → ReadAfterListing s n left
 by-list-job s old left n call =
     let r = listed-written s (length old) n (sym (call .answer)) in
     let front : take n left ≡ listingText s = ap (take n) (call .bytes) ∙ take-at (listingText s) (drop (length (listingText s)) old) n (r .2) in
@@ -67,7 +68,7 @@ by-number (Written n) e = refl
 by-number (Declined why place) e = absurd (refused-not 0 refl why e)
 by-number NoRoom e = absurd (omega arith)
 
-as-list-job : (s old left : List ℕ) (r : CardBytes) → CardList s old r left → r .number ≡ 0 → ListJob s old (Written (r .bytes)) left
+as-list-job : (s : Submission) (old left : List ℕ) (r : CardBytes) → CardList s old r left → r .number ≡ 0 → ListJob s old (Written (r .bytes)) left
 as-list-job s old left r call e =
     let a = listedOf s (length old) in
     let is : a ≡ Written (r .bytes) =

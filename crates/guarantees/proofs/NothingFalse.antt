@@ -9,6 +9,7 @@ use borrow.Author.Tests.{lt-ltb}
 use Rattle.base.specs.Passing.{passing}
 use Rattle.base.proofs.PassingLaws.{Within, passing-within}
 use Rattle.codeword.specs.Nearest.{nearest}
+use Rattle.job.specs.Submission.{Submission}
 use Rattle.job.specs.Job.{jobOf}
 use Rattle.job.specs.declared.JobAnswer.the-variants.{Accepted}
 use Rattle.placement.specs.Placement.{contentAt}
@@ -32,7 +33,7 @@ use Rattle.guarantees.proofs.DamagedLine.{not-lost, few, lineRead, line
 use Rattle.guarantees.proofs.Reported.{reported}
 use Rattle.guarantees.proofs.Demand2.{ordered, front}
 
-module _ (s : List ℕ) (n : ℕ) (ok : jobOf s ≡ Accepted n) (words : List ℕ) where
+module _ (s : Submission) (n : ℕ) (ok : jobOf s ≡ Accepted n) (words : List ℕ) where
   abbrev xs : List Sending
   xs = sendingsOf s
 

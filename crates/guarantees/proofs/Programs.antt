@@ -8,6 +8,7 @@ use lib.ListN.{length, take, drop}
 use lib.Seq.{take-at}
 use borrow.Author.Tests.{le-ltb}
 use Rattle.base.proofs.SearchLaws.{le-or-lt}
+use Rattle.job.specs.Submission.{Submission}
 use Rattle.job.specs.Job.{jobOf}
 use Rattle.job.specs.Refusal.{jobNumber, jobPlace, jobPosition}
 use Rattle.job.specs.declared.JobAnswer.{JobAnswer}
@@ -36,16 +37,16 @@ use Rattle.guarantees.proofs.Demand2.{demand2}
 use Rattle.guarantees.proofs.Listed.{listing-back}
 
 -- what is printed is what the definition says
-printed : (prints : List ℕ → List ℕ) {s old left : List ℕ} {n : ℕ} → ProgramCall prints s old n left → output n left ≡ prints s
+printed : {X : Type 0} (prints : X → List ℕ) {s : X} {old left : List ℕ} {n : ℕ} → ProgramCall prints s old n left → output n left ≡ prints s
 printed prints {s} {old} {left} {n} call = ap (take n) (call .bytes) ∙ take-at (prints s) (drop (length (prints s)) old) n (sym (call .count))
 
--- the sending program prints the job's own refusal, or its listing
-send-is : (s : List ℕ) → sendPrints s ≡ unlessLong s (answerText (jobNumber (jobOf s)) (jobPlace (jobOf s)) (jobPosition (jobOf s)) (listingText s))
+-- the sending program prints the refusal of the job or its book, or its listing
+send-is : (s : Submission) → sendPrints s ≡ unlessLong (s .job) (answerText (jobNumber (jobOf s)) (jobPlace (jobOf s)) (jobPosition (jobOf s)) (listingText s))
 unfolding sendPrints
 send-is s = let e = listing.enough s 46062 (omega arith) in rw (e .0, e .1, e .2)
 
-send-listing : (s : List ℕ) (n : ℕ) → jobOf s ≡ Accepted n → sendPrints s ≡ listingText s
-send-listing s n ok = send-is s ∙ rw (le-ltb 65536 (length s) (omega (arith, accepted-short s n ok)), ok)
+send-listing : (s : Submission) (n : ℕ) → jobOf s ≡ Accepted n → sendPrints s ≡ listingText s
+send-listing s n ok = send-is s ∙ rw (le-ltb 65536 (length (s .job)) (omega (arith, accepted-short s n ok)), ok)
 
 -- a listing that gives these lines is printed so
 read-lines : (s lines : List ℕ) (pages : ℕ) (changed : Changes) → length s ≤ 65536 → Gives lines pages 0 0 changed 48000 (readListing s 48000) (wordsOf s) → readPrints s ≡ lines
@@ -57,7 +58,7 @@ read-lines s lines pages changed h g =
     rw (le-ltb 65536 (length s) h, ap numberOf (g .answered fits)) (g .written fits)
 
 -- the listing of as many words as a transmission has is no input of over 65,536 bytes
-received-short : (s : List ℕ) (n : ℕ) → jobOf s ≡ Accepted n → (words : List ℕ) → Received 2 (transmissionOf (sendingsOf s)) words → length (textOf words) ≤ 65536
+received-short : (s : Submission) (n : ℕ) → jobOf s ≡ Accepted n → (words : List ℕ) → Received 2 (transmissionOf (sendingsOf s)) words → length (textOf words) ≤ 65536
 received-short s n ok words r =
     omega (arith, text-length 0 words, text-length 0 (transmissionOf (sendingsOf s)), listing.listing-short s n ok, r .whole)
 
@@ -79,7 +80,7 @@ job-number : (a : JobAnswer) → jobNumber a ≡ 10 → ⊥
 job-number (Accepted n) e = omega arith
 job-number (Refused why place) e = refused-not 10 refl why e
 
-sent-number : (s : List ℕ) (words slots : ℕ) → 5118 ≤ words → 48 ≤ slots → (a : JobAnswer) → jobOf s ≡ a → report.numberOf (reportOf s words slots) ≡ 10 → ⊥
+sent-number : (s : Submission) (words slots : ℕ) → 5118 ≤ words → 48 ≤ slots → (a : JobAnswer) → jobOf s ≡ a → report.numberOf (reportOf s words slots) ≡ 10 → ⊥
 unfolding reportOf
 sent-number s words slots h k (Accepted n) e ten = omega (arith, acceptance s .enough n e words slots h k)
 sent-number s words slots h k (Refused why place) e ten =

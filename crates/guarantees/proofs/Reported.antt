@@ -7,6 +7,7 @@ use native.Mathlib.Omega.{arith}
 use lib.ListN.{length}
 use lib.Dec.{ltb}
 use borrow.Author.Tests.{ltb-false}
+use Rattle.job.specs.Submission.{Submission}
 use Rattle.job.specs.Job.{jobOf}
 use Rattle.job.specs.declared.JobAnswer.{JobAnswer}
 use Rattle.job.specs.declared.JobAnswer.the-variants.{Accepted, Refused}
@@ -43,6 +44,6 @@ by-answer (Accepted n) xs words slots e =
     }
 by-answer (Refused why place) xs words slots e = let z : _≡_ {A = ℕ} 0 1 = cc in absurd (omega arith)
 
-pub reported : (s : List ℕ) (words slots : ℕ) {b m : ℕ} → reportOf s words slots ≡ Sent b m → Reported (jobOf s) (sendingsOf s) words slots b m
+pub reported : (s : Submission) (words slots : ℕ) {b m : ℕ} → reportOf s words slots ≡ Sent b m → Reported (jobOf s) (sendingsOf s) words slots b m
 unfolding reportOf
 reported s words slots e = by-answer (jobOf s) (sendingsOf s) words slots e

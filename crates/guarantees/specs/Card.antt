@@ -4,6 +4,7 @@ use mathlib.Core.List.{List, _++_, map}
 use Prim.Native.Nat.{ℕ, _≤_}
 use lib.ListN.{length, take, replicate}
 use Rattle.base.specs.Lists.{over}
+use Rattle.job.specs.Submission.{Submission}
 use Rattle.job.specs.Job.{jobOf}
 use Rattle.job.specs.declared.JobAnswer.the-variants.{Accepted}
 use Rattle.transmission.specs.Sending.{sendingsOf}
@@ -22,13 +23,13 @@ use Rattle.guarantees.specs.Demand3.{Carried}
 -- ---- the calls, each by its promises
 
 -- with the job s, lent words that held w₀ and slots that held t₀, `card_send` answers r and leaves w and t
-pub record CardSend (s w₀ t₀ : List ℕ) (r : CardReport) (w t : List ℕ) : Type 0 where
+pub record CardSend (s : Submission) (w₀ t₀ : List ℕ) (r : CardReport) (w t : List ℕ) : Type 0 where
   pub answer : r ≡ reportFor (reportOf s (length w₀) (length t₀))
   pub words : w ≡ over w₀ (wordsSent (reportOf s (length w₀) (length t₀)) (sendingsOf s))
   pub slots : t ≡ over t₀ (slotsSent (reportOf s (length w₀) (length t₀)) (sendingsOf s))
 
 -- with the job s, lent a state that was `old`, `card_start` answers r and leaves t
-pub record CardStart (s : List ℕ) (old : Sender) (r : CardRefusal) (t : Sender) : Type 0 where
+pub record CardStart (s : Submission) (old : Sender) (r : CardRefusal) (t : Sender) : Type 0 where
   pub answer : r ≡ refusalFor (startedOf s .answer)
   pub state : t ≡ stateFor (startedOf s .answer) (startedOf s .state) old
 
@@ -57,7 +58,7 @@ pub record CardStepping (words : List ℕ) (s : Sender) : Type 0 where
   pub at-rest : (given : List CardStep) (t : Sender) → Calls CardStepCall s given t → length words ≤ length given
       → (a : CardStep) (u : Sender) → CardStepCall t a u → u ≡ t
 
-pub record CardDemand3 (s : List ℕ) : Type 0 where
+pub record CardDemand3 (s : Submission) : Type 0 where
   -- every call of `card_send` that declines nothing
   pub sending : (w₀ t₀ w t : List ℕ) (r : CardReport) → CardSend s w₀ t₀ r w t → r .number ≡ 0
       → (n : ℕ) × (jobOf s ≡ Accepted n) × Carried s n (r .batches) (r .words) w t

@@ -4,8 +4,9 @@ use mathlib.Core.Path.{_≡_}
 use mathlib.Core.List.{List, [], _∷_, _++_, flatMap}
 use Prim.Native.Nat.{ℕ, _<_}
 use lib.ListN.{length, take, drop}
-use Rattle.base.specs.Lines.{split, lineAt}
 use Rattle.base.specs.Lists.{over}
+use Rattle.job.specs.Submission.{Submission}
+use Rattle.job.specs.Pages.{plainAt}
 use Rattle.job.specs.Job.{jobOf}
 use Rattle.job.specs.declared.JobAnswer.the-variants.{Accepted}
 use Rattle.transmission.specs.Sending.{sendingsOf, sendingAt, placementOf}
@@ -21,29 +22,29 @@ use Rattle.guarantees.specs.Order.{order, InOrder}
 use Rattle.guarantees.specs.Transport.{Received, flipsIn, hearingOf}
 use Rattle.guarantees.specs.Gives.{Gives}
 
--- line p of a job, with its newline
-abbrev pub pageLine : List ℕ → ℕ → List ℕ
-pageLine s p = lineAt p (split s) ++ (10 ∷ [])
+-- what line p of a job stands for, with its newline: the line itself, but for a phrase of the book a line of kind 5 (request R-6)
+abbrev pub pageLine : Submission → ℕ → List ℕ
+pageLine s p = plainAt s p ++ (10 ∷ [])
 
 -- a job's pages in the order of their slots
-abbrev pub inSlotOrder : List ℕ → List ℕ
+abbrev pub inSlotOrder : Submission → List ℕ
 inSlotOrder s = order (placementOf (sendingsOf s))
 
 -- its own page lines in that order, one after the other
-abbrev pub linesInOrder : List ℕ → List ℕ
+abbrev pub linesInOrder : Submission → List ℕ
 linesInOrder s = flatMap (pageLine s) (inSlotOrder s)
 
 -- the texts' half: a page that is heard as it was sent has the line that it had in its job. `line-back` in proofs/LineBack.antt
 abbrev pub LineBack : Type 0
-LineBack = (s : List ℕ) (n : ℕ) → jobOf s ≡ Accepted n → (p : ℕ) → p < n → lineHeard (hearingOf (sendingAt (sendingsOf s) p)) ≡ pageLine s p
+LineBack = (s : Submission) (n : ℕ) → jobOf s ≡ Accepted n → (p : ℕ) → p < n → lineHeard (hearingOf (sendingAt (sendingsOf s) p)) ≡ pageLine s p
 
 -- an answer to reading the words behind the preamble that gives the n pages of a job back: nothing lost, no orphans, the job's own lines in
 -- the order of their slots, and as many bits changed as were flipped
-abbrev pub GivesBack : List ℕ → ℕ → List ℕ → ℕ → Reading → List ℕ → Type 0
+abbrev pub GivesBack : Submission → ℕ → List ℕ → ℕ → Reading → List ℕ → Type 0
 GivesBack s n words room answer behind = Gives (linesInOrder s) n 0 0 (flipsIn (sendingsOf s) words) room answer behind
 
 -- what reading these words gives of a job of n pages
-pub record SamePages (s : List ℕ) (n : ℕ) (words : List ℕ) : Type 0 where
+pub record SamePages (s : Submission) (n : ℕ) (words : List ℕ) : Type 0 where
   -- the order is that of the slots: every page once, by rising slots
   pub in-order : InOrder (placementOf (sendingsOf s)) (inSlotOrder s)
   -- the words behind the preamble, read as a slice of words
@@ -54,14 +55,14 @@ pub record SamePages (s : List ℕ) (n : ℕ) (words : List ℕ) : Type 0 where
 -- every accepted job, and all words that are received for its transmission with at most two flips in each sync and each frame codeword
 abbrev pub Demand2 : Type 0
 Demand2 =
-    (s : List ℕ) (n : ℕ) → jobOf s ≡ Accepted n → (words : List ℕ) → Received 2 (transmissionOf (sendingsOf s)) words → SamePages s n words
+    (s : Submission) (n : ℕ) → jobOf s ≡ Accepted n → (words : List ℕ) → Received 2 (transmissionOf (sendingsOf s)) words → SamePages s n words
 
 -- the first m of the words that `send` leaves in a slice that held `old`, where the other has room for so many slots
-abbrev pub wordsLeft : List ℕ → List ℕ → ℕ → ℕ → List ℕ
+abbrev pub wordsLeft : Submission → List ℕ → ℕ → ℕ → List ℕ
 wordsLeft s old slots m = take m (over old (wordsSent (reportOf s (length old) slots) (sendingsOf s)))
 
 -- what holds of them where m words are reported
-pub record ReadAfterSending (s old : List ℕ) (slots m : ℕ) : Type 0 where
+pub record ReadAfterSending (s : Submission) (old : List ℕ) (slots m : ℕ) : Type 0 where
   -- the job is accepted, with so many pages
   pub pages : ℕ
   pub accepted : jobOf s ≡ Accepted pages
@@ -73,4 +74,4 @@ pub record ReadAfterSending (s old : List ℕ) (slots m : ℕ) : Type 0 where
 
 -- every job that `send` reports as sent, whatever the lent slices are
 abbrev pub SentThenRead : Type 0
-SentThenRead = (s old : List ℕ) (slots b m : ℕ) → reportOf s (length old) slots ≡ Sent b m → ReadAfterSending s old slots m
+SentThenRead = (s : Submission) (old : List ℕ) (slots b m : ℕ) → reportOf s (length old) slots ≡ Sent b m → ReadAfterSending s old slots m

@@ -11,6 +11,7 @@ use Rattle.base.specs.Hex.{bytesOf}
 use Rattle.base.specs.Lists.{over}
 use Rattle.base.specs.Search.{sum}
 use Rattle.codeword.specs.Code as code
+use Rattle.job.specs.Submission.{Submission}
 use Rattle.job.specs.Pages.{pageAt, digitsAt}
 use Rattle.job.specs.Job.{jobOf}
 use Rattle.job.specs.declared.JobAnswer.{JobAnswer}
@@ -32,7 +33,7 @@ use Rattle.sender.specs.Stepping.{StartCall, Stepping}
 abbrev pub OnlyRoom : Report → Type 0
 OnlyRoom r = (numberOf r ≡ 0) ⊎ (numberOf r ≡ 10)
 
-pub record Acceptance (s : List ℕ) : Type 0 where
+pub record Acceptance (s : Submission) : Type 0 where
   -- an accepted job is one that number 10 alone may keep from being sent, whatever is lent
   pub accepted : (words slots : ℕ) → OnlyRoom (reportOf s words slots) → (n : ℕ) × (jobOf s ≡ Accepted n)
   pub undeclined : (n : ℕ) → jobOf s ≡ Accepted n → (words slots : ℕ) → OnlyRoom (reportOf s words slots)
@@ -46,13 +47,13 @@ pub record Acceptance (s : List ℕ) : Type 0 where
 -- ---- a call of `send`
 
 -- with the job s, lent words that held w₀ and slots that held t₀, it answers r and leaves w and t: its three promises
-pub record Call (s w₀ t₀ : List ℕ) (r : Report) (w t : List ℕ) : Type 0 where
+pub record Call (s : Submission) (w₀ t₀ : List ℕ) (r : Report) (w t : List ℕ) : Type 0 where
   pub answer : r ≡ reportOf s (length w₀) (length t₀)
   pub words : w ≡ over w₀ (wordsSent r (sendingsOf s))
   pub slots : t ≡ over t₀ (slotsSent r (sendingsOf s))
 
 -- page i of a job as it is sent: identity, function, 20-bit groups
-abbrev pub page : List ℕ → ℕ → Sending
+abbrev pub page : Submission → ℕ → Sending
 page s i = sendingOf s (pageAt s i)
 
 -- the message codewords of a page of a kind, by the digits of its text: none for a tone, c / 5 for c numeric characters and 7 c / 20 for c
@@ -65,7 +66,7 @@ messageCount kind digits =
     (length digits / 5)))
 
 -- those of page i
-abbrev pub count : List ℕ → ℕ → ℕ
+abbrev pub count : Submission → ℕ → ℕ
 count s i = messageCount (pageAt s i .kind) (digitsAt s i)
 
 -- the slot that is reported for page i
@@ -79,7 +80,7 @@ wordIn w p = getD w (slotIndex p) 0
 -- Below a job s of n pages is sent with b batches and m words, and the words and slots at exit are w and t.
 
 -- the two bounds
-pub record InTime (s : List ℕ) (n b : ℕ) (t : List ℕ) : Type 0 where
+pub record InTime (s : Submission) (n b : ℕ) (t : List ℕ) : Type 0 where
   -- for every k from 1 to n exactly one page goes out k-th
   pub some : (k : ℕ) → 1 ≤ k → k ≤ n → (i : ℕ) × (i < n) × GoesOut (slot t) n k i
   pub one : (k i j : ℕ) → i < n → j < n → GoesOut (slot t) n k i → GoesOut (slot t) n k j → i ≡ j
@@ -89,7 +90,7 @@ pub record InTime (s : List ℕ) (n b : ℕ) (t : List ℕ) : Type 0 where
   pub few : b ≤ (16 * n + sum (count s) n - 1) / 16 + 1
 
 -- what is reported is what the placement says
-pub record AsPlaced (s : List ℕ) (n b m : ℕ) (w t : List ℕ) : Type 0 where
+pub record AsPlaced (s : Submission) (n b m : ℕ) (w t : List ℕ) : Type 0 where
   -- its batches, its slots, and in each of these the page's address
   pub batches-are : b ≡ batches (placementOf (sendingsOf s))
   pub slots-are : take n t ≡ slots (placementOf (sendingsOf s))
@@ -105,7 +106,7 @@ pub record AsPlaced (s : List ℕ) (n b m : ℕ) (w t : List ℕ) : Type 0 where
   pub slots-fit : n ≤ length t
 
 -- what is reported is what stands in the words
-pub record InWords (s : List ℕ) (n b m : ℕ) (w t : List ℕ) : Type 0 where
+pub record InWords (s : Submission) (n b m : ℕ) (w t : List ℕ) : Type 0 where
   -- the slots whose word is an address are the reported ones
   pub reported : (p : ℕ) → p < 16 * b → isAddress (wordIn w p) ≡ true → (i : ℕ) × (i < n) × (p ≡ slot t i)
   pub addressed : (i : ℕ) → i < n → isAddress (wordIn w (slot t i)) ≡ true
@@ -126,7 +127,7 @@ pub record InWords (s : List ℕ) (n b m : ℕ) (w t : List ℕ) : Type 0 where
   pub syncs : sum (λ k. cond (eqb (getD w k 0) code.sync) 1 0) m ≡ b
 
 -- all of that; the pause after a message (R-3); and every list of steps of the same job answers these very words, and then done
-pub record Carried (s : List ℕ) (n b m : ℕ) (w t : List ℕ) : Type 0 where
+pub record Carried (s : Submission) (n b m : ℕ) (w t : List ℕ) : Type 0 where
   pub in-time : InTime s n b t
   pub as-placed : AsPlaced s n b m w t
   pub in-words : InWords s n b m w t
@@ -136,7 +137,7 @@ pub record Carried (s : List ℕ) (n b m : ℕ) (w t : List ℕ) : Type 0 where
 
 -- ---- demand 3 of a job, whatever its bytes are
 
-pub record Demand3 (s : List ℕ) : Type 0 where
+pub record Demand3 (s : Submission) : Type 0 where
   pub acceptance : Acceptance s
   -- every call of `send` that reports b batches and m words
   pub sending : (w₀ t₀ w t : List ℕ) (b m : ℕ) → Call s w₀ t₀ (Sent b m) w t → (n : ℕ) × (jobOf s ≡ Accepted n) × Carried s n b m w t

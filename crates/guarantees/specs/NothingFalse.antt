@@ -8,6 +8,7 @@ use lib.Dec.{eqb}
 use lib.ListN.{length, getD, take, drop}
 use Rattle.base.specs.Lists.{Begins}
 use Rattle.codeword.specs.Nearest.{nearest}
+use Rattle.job.specs.Submission.{Submission}
 use Rattle.job.specs.Line.{isData, functionOf}
 use Rattle.job.specs.Pages.{pageAt, digitsAt}
 use Rattle.job.specs.Print.{printed}
@@ -36,23 +37,23 @@ use Rattle.guarantees.specs.Demand3.{page, count, wordIn}
 -- ---- its slots
 
 -- how many there are
-abbrev pub slotCount : List ℕ → ℕ
+abbrev pub slotCount : Submission → ℕ
 slotCount s = 16 * batches (placementOf (sendingsOf s))
 
 -- the one that holds page i's address; its message codewords are in the `count s i` slots directly behind
-abbrev pub addressSlot : List ℕ → ℕ → ℕ
+abbrev pub addressSlot : Submission → ℕ → ℕ
 addressSlot s i = slotOf (placementOf (sendingsOf s)) i
 
 -- how many bits of the word of slot p are flipped
-abbrev pub slotFlips : List ℕ → List ℕ → ℕ → ℕ
+abbrev pub slotFlips : Submission → List ℕ → ℕ → ℕ
 slotFlips s words p = flipCount (transmissionOf (sendingsOf s)) words (slotIndex p)
 
 -- slot p's word is lost: it has more than two flips
-abbrev pub slotLost : List ℕ → List ℕ → ℕ → Bool
+abbrev pub slotLost : Submission → List ℕ → ℕ → Bool
 slotLost s words = lostAt (transmissionOf (sendingsOf s)) words
 
 -- page i's codewords have at most two flips each, and so has the next slot's, if any
-pub record Undamaged (s words : List ℕ) (i : ℕ) : Type 0 where
+pub record Undamaged (s : Submission) (words : List ℕ) (i : ℕ) : Type 0 where
   pub codewords : (j : ℕ) → j ≤ count s i → slotFlips s words (addressSlot s i + j) ≤ 2
   pub next : addressSlot s i + count s i + 1 < slotCount s → slotFlips s words (addressSlot s i + count s i + 1) ≤ 2
 
@@ -68,7 +69,7 @@ abbrev pub together : ℕ → ℕ
 together kind = cond (isData kind) 5 2
 
 -- a line of page i that is cut short
-pub record Cut (s words : List ℕ) (i : ℕ) (line : List ℕ) : Type 0 where
+pub record Cut (s : Submission) (words : List ℕ) (i : ℕ) (line : List ℕ) : Type 0 where
   -- so many of its message words are read, and the word behind these, one of its message or the next slot's, has three flips
   pub read : ℕ
   pub within : read ≤ count s i
@@ -87,7 +88,7 @@ pub record Cut (s words : List ℕ) (i : ℕ) (line : List ℕ) : Type 0 where
   pub tone : read ≡ 0 → kind ≡ functionOf (pageAt s i .kind)
   pub same : 0 < read → kind ≡ pageAt s i .kind
 
-pub record LineOf (s words : List ℕ) (i : ℕ) (line : List ℕ) : Type 0 where
+pub record LineOf (s : Submission) (words : List ℕ) (i : ℕ) (line : List ℕ) : Type 0 where
   -- it has no `-` exactly when the page is undamaged, and is the page's own line then
   pub whole : Undamaged s words i → hasDash line ≡ false
   pub undamaged : hasDash line ≡ false → Undamaged s words i
@@ -98,7 +99,7 @@ pub record LineOf (s words : List ℕ) (i : ℕ) (line : List ℕ) : Type 0 wher
 -- ---- what is read
 
 -- the pages ps of a job of n pages are those whose address has at most two flips, each once, in the order of their slots
-pub record Logged (s : List ℕ) (n : ℕ) (words ps : List ℕ) : Type 0 where
+pub record Logged (s : Submission) (n : ℕ) (words ps : List ℕ) : Type 0 where
   pub only : (k : ℕ) → k < length ps → (getD ps k 0 < n) × (slotFlips s words (addressSlot s (getD ps k 0)) ≤ 2)
   pub every : (i : ℕ) → i < n → slotFlips s words (addressSlot s i) ≤ 2 → (k : ℕ) × (k < length ps) × (getD ps k 0 ≡ i)
   pub rising : (k l : ℕ) → k < l → l < length ps → addressSlot s (getD ps k 0) < addressSlot s (getD ps l 0)
@@ -106,13 +107,13 @@ pub record Logged (s : List ℕ) (n : ℕ) (words ps : List ℕ) : Type 0 where
 -- an answer to reading the words behind the preamble that gives the lines of these pages, one after the other; lost are the words with
 -- more than two flips, and orphans the message words with at most two behind a lost word of their page; changed are the flipped bits of
 -- all words that are not lost
-abbrev pub GivesLog : List ℕ → List ℕ → (ℕ → List ℕ) → List ℕ → ℕ → Reading → List ℕ → Type 0
+abbrev pub GivesLog : Submission → List ℕ → (ℕ → List ℕ) → List ℕ → ℕ → Reading → List ℕ → Type 0
 GivesLog s words line ps room answer behind =
     Gives (flatMap line ps) (length ps) (lostTo (slotLost s words) (slotCount s)) (orphansTo (slotLost s words) (sendingsOf s) (slotCount s))
     (flipsBut (slotLost s words) (sendingsOf s) words) room answer behind
 
 -- what reading these words gives of a job of n pages
-pub record NothingFalse (s : List ℕ) (n : ℕ) (words : List ℕ) : Type 0 where
+pub record NothingFalse (s : Submission) (n : ℕ) (words : List ℕ) : Type 0 where
   -- a word with three flips is lost
   pub lost : (p : ℕ) → p < slotCount s → slotFlips s words p ≡ 3 → meaning (nearest (wordIn words p)) ≡ Lost
   -- the pages that get a line, and the line of each
@@ -126,7 +127,7 @@ pub record NothingFalse (s : List ℕ) (n : ℕ) (words : List ℕ) : Type 0 whe
 
 pub record ThreeWrongBits : Type 0 where
   -- every accepted job, and all words that are received for its transmission
-  pub of-job : (s : List ℕ) (n : ℕ) → jobOf s ≡ Accepted n → (words : List ℕ) → Received 3 (transmissionOf (sendingsOf s)) words → NothingFalse s n words
+  pub of-job : (s : Submission) (n : ℕ) → jobOf s ≡ Accepted n → (words : List ℕ) → Received 3 (transmissionOf (sendingsOf s)) words → NothingFalse s n words
   -- every job that `send` reports as sent, whatever the lent slices are, and all words that are received for the m that it reports
-  pub of-sending : (s old : List ℕ) (slots b m : ℕ) → reportOf s (length old) slots ≡ Sent b m
+  pub of-sending : (s : Submission) (old : List ℕ) (slots b m : ℕ) → reportOf s (length old) slots ≡ Sent b m
       → (words : List ℕ) → Received 3 (wordsLeft s old slots m) words → (n : ℕ) × (jobOf s ≡ Accepted n) × NothingFalse s n words

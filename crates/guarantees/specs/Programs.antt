@@ -5,6 +5,7 @@ use mathlib.Core.List.{List}
 use Prim.Native.Nat.{ℕ, _≤_}
 use lib.ListN.{length, take}
 use Rattle.base.specs.Lists.{over}
+use Rattle.job.specs.Submission.{Submission}
 use Rattle.job.specs.Job.{jobOf}
 use Rattle.job.specs.Refusal.{jobNumber, jobPlace, jobPosition}
 use Rattle.job.specs.declared.JobAnswer.the-variants.{Accepted}
@@ -21,9 +22,9 @@ use Rattle.program.specs.Prints.{answerText, unlessLong, sendPrints, readPrints
 use Rattle.guarantees.specs.Transport.{Received}
 use Rattle.guarantees.specs.Demand2.{linesInOrder}
 
--- a call of `program::send` or `program::read`, by its promises: with standard input s and lent bytes that held `old` it answers n and
--- leaves `left`
-pub record ProgramCall (prints : List ℕ → List ℕ) (s old : List ℕ) (n : ℕ) (left : List ℕ) : Type 0 where
+-- a call of `program::send` or `program::read`, by its promises: with standard input s, and for the one a phrase book, and lent bytes that
+-- held `old` it answers n and leaves `left`
+pub record ProgramCall {X : Type 0} (prints : X → List ℕ) (s : X) (old : List ℕ) (n : ℕ) (left : List ℕ) : Type 0 where
   pub count : n ≡ length (prints s)
   pub bytes : left ≡ over old (prints s)
 
@@ -32,7 +33,7 @@ abbrev pub output : ℕ → List ℕ → List ℕ
 output n left = take n left
 
 -- Demand 2 of the programs, of an accepted job
-pub record Programs (s : List ℕ) : Type 0 where
+pub record Programs (s : Submission) : Type 0 where
   -- the sending program prints its listing
   pub sent : (old left : List ℕ) (n : ℕ) → ProgramCall sendPrints s old n left → output n left ≡ listingText s
   -- what it prints, read by a reading program, gives the job's own page lines in the order of their slots
@@ -43,19 +44,19 @@ pub record Programs (s : List ℕ) : Type 0 where
       → output n left ≡ linesInOrder s
 
 abbrev pub OneIntoTheOther : Type 0
-OneIntoTheOther = (s : List ℕ) (n : ℕ) → jobOf s ≡ Accepted n → Programs s
+OneIntoTheOther = (s : Submission) (n : ℕ) → jobOf s ≡ Accepted n → Programs s
 
 -- the sizes that suffice for every job and every listing, in the library, for C and in the programs: no number 10
 pub record Sizes : Type 0 where
   -- CARD_WORDS and CARD_PAGES
-  pub words-and-slots : (s : List ℕ) (words slots : ℕ) → 5118 ≤ words → 48 ≤ slots → report.numberOf (reportOf s words slots) ≡ 10 → ⊥
+  pub words-and-slots : (s : Submission) (words slots : ℕ) → 5118 ≤ words → 48 ≤ slots → report.numberOf (reportOf s words slots) ≡ 10 → ⊥
   -- CARD_LISTING_BYTES
-  pub listing : (s : List ℕ) (room : ℕ) → 46062 ≤ room → listed.numberOf (listedOf s room) ≡ 10 → ⊥
+  pub listing : (s : Submission) (room : ℕ) → 46062 ≤ room → listed.numberOf (listedOf s room) ≡ 10 → ⊥
   -- CARD_LINES_BYTES
   pub lines-of-words : (words : List ℕ) (room : ℕ) → 48000 ≤ room → numberOf (readWords words room) ≡ 10 → ⊥
   pub lines-of-listing : (s : List ℕ) (room : ℕ) → 48000 ≤ room → numberOf (readListing s room) ≡ 10 → ⊥
-  -- so the sending program prints number 24, or the job's own refusal, or its listing
-  pub sending-program : (s : List ℕ) → sendPrints s ≡ unlessLong s (answerText (jobNumber (jobOf s)) (jobPlace (jobOf s)) (jobPosition (jobOf s)) (listingText s))
+  -- so the sending program prints number 24, or the refusal of the job or its book, or its listing
+  pub sending-program : (s : Submission) → sendPrints s ≡ unlessLong (s .job) (answerText (jobNumber (jobOf s)) (jobPlace (jobOf s)) (jobPosition (jobOf s)) (listingText s))
   -- and a reading program what it would print with any more room
   pub reading-program : (s : List ℕ) (room : ℕ) → 48000 ≤ room
       → readPrints s ≡ unlessLong s (answerText (numberOf (readListing s room)) (placeOf (readListing s room)) 0 (linesRead (readListing s room) (wordsOf s)))

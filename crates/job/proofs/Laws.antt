@@ -6,7 +6,7 @@ use mathlib.Core.Bool.{Bool, true, false, cond, not}
 use mathlib.Core.Logic.{_⊎_, ⊎-elim, inl, inr}
 use native.Mathlib.Omega.{arith}
 use lib.ListN.{length, getD, take, drop, length-drop}
-use lib.Seq.{length-take-le, drop-drop}
+use lib.Seq.{drop-drop}
 use lib.Dec.{leb, eqb}
 use borrow.Author.Tests.{le-leb, lt-leb, ne-eqb, leb-true, eqb-true, eqb-false, not-true}
 use native.Mathlib.Nat.{eq-or-lt-of-le}
@@ -16,11 +16,11 @@ use Rattle.base.specs.Lines.{split, lineEnd}
 use Rattle.base.proofs.Bools.{and-true, or-true}
 use Rattle.base.proofs.HexLaws.{bytes-length}
 use Rattle.base.proofs.LeadingLaws.{leading-le}
-use Rattle.base.proofs.LinesLaws.{end-after, end-inside, none-left, cut, uncut}
+use Rattle.base.proofs.LinesLaws.{end-inside, none-left, cut, uncut, first, first-next}
 use Rattle.text.specs.Coding.{charOk, charRun}
 use Rattle.text.proofs.RunLaws.{run-chars}
-use Rattle.job.specs.Line.{isData, allHex, isDigits, isPairs, headFormed, textFormed, tailFormed, wellFormed, codingOf, goodRun, kindOf, textDigits, lineOf, pageFrom}
-use Rattle.job.specs.Pages.{pagesFrom}
+use Rattle.job.specs.Line.{isData, allHex, isDigits, isPairs, headFormed, textFormed, tailFormed, wellFormed, codingOf, goodRun, kindOf, textDigits, lineOf}
+use Rattle.job.specs.Pages.{pageIn, pagesFrom}
 use Rattle.job.specs.Job.{after, judge}
 use Rattle.job.specs.declared.Refusal.the-variants.{Malformed, TooManyLines}
 use Rattle.job.specs.declared.LineAnswer.{LineAnswer}
@@ -85,13 +85,13 @@ module _ (t : List ℕ) (kind : ℕ) where
       let p = and-true (eqb (length t % 2) 0) (isDigits t) e in
       run-chars (codingOf kind) t (omega (arith, digits-all t (p .1)))
 
--- The answer to what is left from the byte `at` on, behind k good lines.
-module _ (job : List ℕ) (at k : ℕ) where
-  pub judge-done : length job ≤ at → judge at k (split (drop at job)) ≡ Accepted k
+-- The answer to what is left from the byte `at` on, behind k good lines, with the book b.
+module _ (b job : List ℕ) (at k : ℕ) where
+  pub judge-done : length job ≤ at → judge b at k (split (drop at job)) ≡ Accepted k
   unfolding judge
   judge-done h = rw (none-left job at h)
 
-  pub judge-many : at < length job → 48 ≤ k → judge at k (split (drop at job)) ≡ Refused TooManyLines 49
+  pub judge-many : at < length job → 48 ≤ k → judge b at k (split (drop at job)) ≡ Refused TooManyLines 49
   unfolding judge
   judge-many h m =
       let d = length-drop at job in
@@ -100,35 +100,26 @@ module _ (job : List ℕ) (at k : ℕ) where
       (λ l. rw (cut job at l) (simp (le-leb 48 k m)))
       (eq-or-lt-of-le (end-inside job at (omega arith)))
 
-  pub judge-unended : k < 48 → at < length job → length job ≤ lineEnd job at → judge at k (split (drop at job)) ≡ Refused Malformed (k + 1)
+  pub judge-unended : k < 48 → at < length job → length job ≤ lineEnd job at → judge b at k (split (drop at job)) ≡ Refused Malformed (k + 1)
   unfolding judge
   judge-unended m h u =
       let d = length-drop at job in
       rw (uncut job at (omega arith) u) (simp (ne-eqb (length (drop at job)) 0 (λ z. omega arith), lt-leb 48 k m))
 
-  pub judge-line : {end : ℕ} {x : LineAnswer} → end ≡ lineEnd job at → k < 48 → end < length job → x ≡ lineOf at (take (end - at) (drop at job))
-      → judge at k (split (drop at job)) ≡ after x (k + 1) (judge (end + 1) (k + 1) (split (drop (end + 1) job)))
+  pub judge-line : {end : ℕ} {x : LineAnswer} → end ≡ lineEnd job at → k < 48 → end < length job → x ≡ lineOf b at (take (end - at) (drop at job))
+      → judge b at k (split (drop at job)) ≡ after x (k + 1) (judge b (end + 1) (k + 1) (split (drop (end + 1) job)))
   unfolding judge
-  judge-line {end} q m h e =
-      let i : end < length job = h in
-      let size : at + length (take (lineEnd job at - at) (drop at job)) + 1 ≡ lineEnd job at + 1 =
-      omega (arith, length-take-le (lineEnd job at - at) (drop at job) (omega (arith, length-drop at job)), end-after job at) in
-      rw (e, q, cut job at (rw q at h)) (rw size (simp (lt-leb 48 k m)))
+  judge-line {end} q m h e = rw (e, q, cut job at (rw q at h)) (rw (first-next job at (rw q at h)) (simp (lt-leb 48 k m)))
 
--- The first line that is left, and the pages that follow its page.
-module _ (s : List ℕ) (at : ℕ) where
-  abbrev pub first : List ℕ
-  first = take (lineEnd s at - at) (drop at s)
-
-  pub first-length : lineEnd s at < length s → length first ≡ lineEnd s at - at
-  first-length h = length-take-le (lineEnd s at - at) (drop at s) (omega (arith, length-drop at s))
-
-  pub pages-next : lineEnd s at < length s → pagesFrom at (split (drop at s)) ≡ pageFrom at first ∷ pagesFrom (lineEnd s at + 1) (split (drop (lineEnd s at + 1) s))
+-- The page of the first line that is left, and those that follow it.
+module _ (b s : List ℕ) (at : ℕ) where
+  pub pages-next : lineEnd s at < length s
+      → pagesFrom b at (split (drop at s)) ≡ pageIn (lineOf b at (first s at)) ∷ pagesFrom b (lineEnd s at + 1) (split (drop (lineEnd s at + 1) s))
   unfolding pagesFrom
   pages-next h =
-      let e : at + length first + 1 ≡ lineEnd s at + 1 = omega (arith, first-length h, end-after s at) in
-      ap (pagesFrom at) (cut s at h) ∙ ap (λ (x : ℕ). pageFrom at first ∷ pagesFrom x (split (drop (lineEnd s at + 1) s))) e
+      ap (pagesFrom b at) (cut s at h)
+      ∙ ap (λ (x : ℕ). pageIn (lineOf b at (first s at)) ∷ pagesFrom b x (split (drop (lineEnd s at + 1) s))) (first-next s at h)
 
-  pub pages-none : at ≤ length s → length s ≤ lineEnd s at → pagesFrom at (split (drop at s)) ≡ []
+  pub pages-none : at ≤ length s → length s ≤ lineEnd s at → pagesFrom b at (split (drop at s)) ≡ []
   unfolding pagesFrom
   pages-none h u = rw (uncut s at h u)

@@ -1,4 +1,4 @@
--- The line of an accepted page prints as it was. Assumes nothing.
+-- The line that an accepted page's line stands for prints as it was. Assumes nothing.
 use mathlib.Core.Path.{_≡_, refl, sym, ap, ap₂, _∙_}
 use mathlib.Core.Bool.{Bool, true, false, _&&_, _||_}
 use mathlib.Core.List.{List, [], _∷_, _++_, append-assoc}
@@ -11,10 +11,10 @@ use lib.Dec.{leb, eqb}
 use borrow.Author.Tests.{leb-true, eqb-true}
 use Rattle.base.specs.Hex.{isHex, hexOf, digitOf, digitsOf, hexNumber}
 use Rattle.base.specs.Leading.{leading}
-use Rattle.base.specs.Lines.{split, lineAt}
 use Rattle.base.proofs.Bools.{and-true, or-true}
 use Rattle.base.proofs.HexLaws.{hex-small, value-digit, number-digits}
 use Rattle.job.specs.Line.{allHex, headFormed, textFormed, tailFormed, wellFormed, identityOf, kindOf, textDigits}
+use Rattle.job.specs.Pages.{plainAt}
 use Rattle.job.specs.Print.{headOf, spaced, printed}
 use Rattle.job.specs.Accepted.{Sound, PageRead, AcceptedJob}
 use Rattle.job.specs.PrintsBack.{LinePrinted, PagePrinted}
@@ -69,4 +69,4 @@ line-printed l s =
 pub page-printed : PagePrinted
 page-printed s n a p h =
     let r = a .page p h in
-    rw (r .identity-is, r .kind-is, r .digits-are) (line-printed (lineAt p (split s)) (a .sound p h))
+    rw (r .identity-is, r .kind-is, r .digits-are) (line-printed (plainAt s p) (a .sound p h))

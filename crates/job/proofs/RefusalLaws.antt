@@ -5,7 +5,7 @@ use mathlib.Core.Bool.{true, false}
 use Rattle.base.proofs.Bools.{true-false}
 use Rattle.job.specs.Refusal.{numberOf, positionOf, declinesJob}
 use Rattle.job.specs.declared.Refusal.{Refusal}
-use Rattle.job.specs.declared.Refusal.the-variants.{Malformed, IdentityRange, IdentityReserved, UnknownKind, PartialGroup, ToneWithText, TextMissing, TextTooLong, Character, TrailingSpace, TooManyLines, EmptyJob}
+use Rattle.job.specs.declared.Refusal.the-variants.{Malformed, IdentityRange, IdentityReserved, UnknownKind, PartialGroup, ToneWithText, TextMissing, TextTooLong, NoPhrase, Character, TrailingSpace, TooManyLines, EmptyJob, BadBook}
 
 pub refused-number : (why : Refusal) → declinesJob (numberOf why) ≡ true
 refused-number Malformed = refl
@@ -16,10 +16,12 @@ refused-number PartialGroup = refl
 refused-number ToneWithText = refl
 refused-number TextMissing = refl
 refused-number TextTooLong = refl
+refused-number NoPhrase = refl
 refused-number (Character position) = refl
 refused-number TrailingSpace = refl
 refused-number TooManyLines = refl
 refused-number EmptyJob = refl
+refused-number BadBook = refl
 
 -- so it is no other number
 pub refused-not : (n : ℕ) → declinesJob n ≡ false → (why : Refusal) → numberOf why ≡ n → ⊥
@@ -35,7 +37,9 @@ refused-position PartialGroup h = refl
 refused-position ToneWithText h = refl
 refused-position TextMissing h = refl
 refused-position TextTooLong h = refl
+refused-position NoPhrase h = refl
 refused-position (Character position) h = absurd (h refl)
 refused-position TrailingSpace h = refl
 refused-position TooManyLines h = refl
 refused-position EmptyJob h = refl
+refused-position BadBook h = refl

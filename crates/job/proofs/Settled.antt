@@ -6,6 +6,7 @@ use mathlib.Core.List.{List}
 use native.Mathlib.Omega.{arith}
 use lib.ListN.{length}
 use borrow.Author.Tests.{lt-ltb, le-ltb}
+use Rattle.job.specs.Submission.{Submission}
 use Rattle.job.specs.Job.{jobOf}
 use Rattle.job.specs.Refusal.{declinesJob, jobNumber, jobPlace, jobPosition, jobPages}
 use Rattle.job.specs.Settled.{LineSettled, JobSettled}
@@ -21,11 +22,11 @@ line-settled room line = record {
   unplaced = refl;
 }
 
-few-by : (s : List ℕ) (a : JobAnswer) → jobOf s ≡ a → jobPages a ≤ 48
+few-by : (s : Submission) (a : JobAnswer) → jobOf s ≡ a → jobPages a ≤ 48
 few-by s (Accepted n) e = accepted-job s n e .most
 few-by s (Refused why place) e = omega arith
 
-short-by : (s : List ℕ) (a : JobAnswer) → jobOf s ≡ a → jobNumber a ≡ 0 → length s ≤ 23520
+short-by : (s : Submission) (a : JobAnswer) → jobOf s ≡ a → jobNumber a ≡ 0 → length (s .job) ≤ 23520
 short-by s (Accepted n) e z = accepted-short s n e
 short-by s (Refused why place) e z = absurd (refused-not 0 refl why z)
 
@@ -45,7 +46,7 @@ only-by : (a : JobAnswer) → (jobNumber a ≡ 6 → ⊥) → jobPosition a ≡ 
 only-by (Accepted n) h = refl
 only-by (Refused why place) h = refused-position why h
 
-pub job-settled : (s : List ℕ) → JobSettled s
+pub job-settled : (s : Submission) → JobSettled s
 job-settled s = record {
   short = short-by s (jobOf s) refl;
   few = few-by s (jobOf s) refl;

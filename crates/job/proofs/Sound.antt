@@ -1,9 +1,9 @@
--- A line that is good is sound: none of the tests that could decline it did. Assumes nothing.
+-- The tests that a good line has passed, and what they say of a text. Assumes nothing.
 use Prim.Native.Nat.{ℕ, _+_, _/_, _%_, _≤_, _<_}
-use mathlib.Core.Path.{_≡_, refl, sym}
+use mathlib.Core.Path.{_≡_, refl}
 use mathlib.Core.List.{List}
-use mathlib.Core.Bool.{Bool, true, false, cond}
-use mathlib.Core.Logic.{⊎-elim}
+use mathlib.Core.Bool.{Bool, true, false, cond, _&&_}
+use mathlib.Core.Logic.{_⊎_, inl, inr, ⊎-elim}
 use native.Mathlib.Omega.{arith}
 use lib.ListN.{length}
 use lib.Dec.{leb, ltb, eqb}
@@ -14,7 +14,10 @@ use Rattle.base.proofs.HexLaws.{bytes-length}
 use Rattle.base.proofs.SearchLaws.{le-or-lt}
 use Rattle.text.specs.Coding.{endsInSpace, groupsOf}
 use Rattle.text.specs.declared.Coding.the-variants.{Numeric, Alphanumeric}
-use Rattle.job.specs.Line.{wellFormed, isReserved, isData, longestOf, codingOf, functionOf, goodRun, tonePageOf, textPageOf, dataPageOf, kindPageOf, pageOf, lineOf, identityOf, kindOf, textDigits, pageFrom}
+use Rattle.phrases.specs.Book.{hasBook, phraseFor}
+use Rattle.phrases.specs.declared.Phrase.{Phrase}
+use Rattle.phrases.specs.declared.Phrase.the-variants.{At, Missing}
+use Rattle.job.specs.Line.{wellFormed, isReserved, isData, longestOf, codingOf, functionOf, goodRun, tonePageOf, textPageOf, dataPageOf, phrasePageOf, kindPageOf, pageOf, lineOf, identityOf, kindOf, textDigits, pageFrom}
 use Rattle.job.specs.Message.{countFrom}
 use Rattle.job.specs.Accepted.{TextSound, DataSound, Sound}
 use Rattle.job.specs.declared.Refusal.{Refusal}
@@ -46,7 +49,7 @@ tone-sound kind bytes low e =
       unspaced = rw (ne-eqb kind 4 (λ z. omega arith));
     }
 
-text-sound : (page : Page) (bytes : List ℕ) → 4 ≤ page .kind → {p : Page} → textPageOf page bytes ≡ Good p → TextSound (page .kind) bytes × (Good p ≡ Good page)
+text-sound : (page : Page) (bytes : List ℕ) → 4 ≤ page .kind → {p : Page} → textPageOf page bytes ≡ Good p → TextSound (page .kind) bytes × (Good page ≡ Good p)
 unfolding textPageOf
 text-sound page bytes low e =
     let kind = page .kind in
@@ -62,10 +65,10 @@ text-sound page bytes low e =
         chars = ltb-false _ _ (p3 .0);
         unspaced = p4 .0;
       },
-      sym (p4 .1),
+      p4 .1,
     )
 
-data-sound : (page : Page) (digits : List ℕ) {p : Page} → dataPageOf page digits ≡ Good p → DataSound digits × (Good p ≡ Good page)
+data-sound : (page : Page) (digits : List ℕ) {p : Page} → dataPageOf page digits ≡ Good p → DataSound digits × (Good page ≡ Good p)
 unfolding dataPageOf
 data-sound page digits e =
     let p1 = past (ltb 0 (length digits % 5)) PartialGroup _ e in
@@ -74,42 +77,60 @@ data-sound page digits e =
     let whole : length digits % 5 ≤ 0 = ltb-false 0 (length digits % 5) (p1 .0) in
     let some : length digits ≡ 0 → ⊥ = eqb-false (length digits) 0 (p2 .0) in
     let most : length digits / 5 ≤ 84 = ltb-false 84 (length digits / 5) (p3 .0) in
-    (record { whole = omega arith; some = omega arith; most = omega arith }, sym (p3 .1))
+    (record { whole = omega arith; some = omega arith; most = omega arith }, p3 .1)
 
 -- what the kind and the digits of a page have
-record KindSound (kind : ℕ) (digits : List ℕ) : Type 0 where
-  known : kind ≤ 7
-  text : kind ≤ 5 → TextSound kind (bytesOf digits)
-  grouped : 6 ≤ kind → DataSound digits
+pub record KindSound (kind : ℕ) (digits : List ℕ) : Type 0 where
+  pub known : kind ≤ 7
+  pub text : kind ≤ 5 → TextSound kind (bytesOf digits)
+  pub grouped : 6 ≤ kind → DataSound digits
 
-kind-sound : (page : Page) (digits : List ℕ) {p : Page} → kindPageOf page digits ≡ Good p → KindSound (page .kind) digits × (Good p ≡ Good page)
+-- of kind 9: where the phrase stands that the digits name
+pub record Named (b : List ℕ) (page : Page) (digits : List ℕ) (p : Page) : Type 0 where
+  pub kind : page .kind ≡ 9
+  pub start : ℕ
+  pub count : ℕ
+  pub found : phraseFor b digits ≡ At start count
+  pub same : phrasePageOf page (At start count) ≡ Good p
+
+named : (b : List ℕ) (page : Page) (digits : List ℕ) (f : Phrase) {p : Page} → page .kind ≡ 9 → phraseFor b digits ≡ f → phrasePageOf page f ≡ Good p → Named b page digits p
+named b page digits (At start count) k e g = record { kind = k; start = start; count = count; found = e; same = g }
+named b page digits Missing k e g = let z : _≡_ {A = ℕ} 0 1 = cc in absurd (omega arith)
+
+-- a good page is that of its line, or it has a phrase
+abbrev pub KindGood : List ℕ → Page → List ℕ → Page → Type 0
+KindGood b page digits p = (KindSound (page .kind) digits × (Good page ≡ Good p)) ⊎ Named b page digits p
+
+kind-good : (b : List ℕ) (page : Page) (digits : List ℕ) {p : Page} → kindPageOf b page digits ≡ Good p → KindGood b page digits p
 unfolding kindPageOf tonePageOf
-kind-sound page digits {p} = go (between 0 3 (page .kind)) (between 4 5 (page .kind)) (isData (page .kind)) refl refl refl
+kind-good b page digits {p} = go (between 0 3 (page .kind)) (between 4 5 (page .kind)) (isData (page .kind)) (eqb (page .kind) 9 && hasBook b) refl refl refl refl
   where
-    go : (t u d : Bool) → between 0 3 (page .kind) ≡ t → between 4 5 (page .kind) ≡ u → isData (page .kind) ≡ d
-        → cond t (tonePageOf page digits) (cond u (textPageOf page (bytesOf digits)) (cond d (dataPageOf page digits) (Faulty UnknownKind))) ≡ Good p
-        → KindSound (page .kind) digits × (Good p ≡ Good page)
-    go true u d e f h g =
+    go : (t u d v : Bool) → between 0 3 (page .kind) ≡ t → between 4 5 (page .kind) ≡ u → isData (page .kind) ≡ d → eqb (page .kind) 9 && hasBook b ≡ v
+        → cond t (tonePageOf page digits) (cond u (textPageOf page (bytesOf digits)) (cond d (dataPageOf page digits) (cond v (phrasePageOf page (phraseFor b digits)) (Faulty UnknownKind)))) ≡ Good p
+        → KindGood b page digits p
+    go true u d v e f h k g =
         let kind = page .kind in
         let p = kept (eqb (length digits) 0) ToneWithText _ g in
         let none : length digits ≡ 0 = eqb-true (length digits) 0 (p .0) in
-        let low : kind ≤ 3 = leb-true kind 3 (and-true (leb 0 kind) (leb kind 3) e .1) in (
+        let low : kind ≤ 3 = leb-true kind 3 (and-true (leb 0 kind) (leb kind 3) e .1) in
+        inl (
           record { known = omega arith; text = λ _. tone-sound kind (bytesOf digits) low (omega (arith, bytes-length digits)); grouped = λ z. absurd (omega arith) },
-          sym (p .1),
+          p .1,
         )
-    go false true d e f h g =
+    go false true d v e f h k g =
         let kind = page .kind in
         let x = and-true (leb 4 kind) (leb kind 5) f in
         let low : 4 ≤ kind = leb-true 4 kind (x .0) in
         let high : kind ≤ 5 = leb-true kind 5 (x .1) in
         let t = text-sound page (bytesOf digits) low g in
-        (record { known = omega arith; text = λ _. t .0; grouped = λ z. absurd (omega arith) }, t .1)
-    go false false true e f h g =
+        inl (record { known = omega arith; text = λ _. t .0; grouped = λ z. absurd (omega arith) }, t .1)
+    go false false true v e f h k g =
         let kind = page .kind in
         let x = data-kind kind h in
         let t = data-sound page digits g in
-        (record { known = x .1; text = λ z. absurd (omega (arith, x .0)); grouped = λ _. t .0 }, t .1)
-    go false false false e f h g = let z : _≡_ {A = ℕ} 0 1 = cc in absurd (omega arith)
+        inl (record { known = x .1; text = λ z. absurd (omega (arith, x .0)); grouped = λ _. t .0 }, t .1)
+    go false false false true e f h k g = inr (named b page digits (phraseFor b digits) (eqb-true (page .kind) 9 (and-true (eqb (page .kind) 9) (hasBook b) k .0)) refl g)
+    go false false false false e f h k g = let z : _≡_ {A = ℕ} 0 1 = cc in absurd (omega arith)
 
 -- how many message codewords the longest texts take
 few-groups : (kind n : ℕ) → n ≤ longestOf kind → groupsOf (codingOf kind) n ≤ 84
@@ -162,38 +183,32 @@ function-small kind h = go (eqb kind 4) (eqb kind 5) (eqb kind 6) (eqb kind 7) r
         let seven : kind ≡ 7 → ⊥ = eqb-false kind 7 g in
         omega arith
 
--- the tests of a line that is good
-record Passed (at : ℕ) (l : List ℕ) (p : Page) : Type 0 where
-  formed : wellFormed l ≡ true
-  in-range : identityOf l ≤ 0x1FFFFF
-  free : isReserved (identityOf l) ≡ false
-  kinds : KindSound (kindOf l) (textDigits l)
-  same : Good p ≡ Good (pageFrom at l)
+-- the tests of a line that is good with the book b
+pub record Passed (b : List ℕ) (at : ℕ) (l : List ℕ) (p : Page) : Type 0 where
+  pub formed : wellFormed l ≡ true
+  pub in-range : identityOf l ≤ 0x1FFFFF
+  pub free : isReserved (identityOf l) ≡ false
+  pub kinds : KindGood b (pageFrom at l) (textDigits l) p
 
-passed : (at : ℕ) (l : List ℕ) {p : Page} → lineOf at l ≡ Good p → Passed at l p
+pub passed : (b : List ℕ) (at : ℕ) (l : List ℕ) {p : Page} → lineOf b at l ≡ Good p → Passed b at l p
 unfolding lineOf pageOf
-passed at l e =
+passed b at l e =
     let p1 = kept (wellFormed l) Malformed _ e in
     let p2 = past (ltb 0x1FFFFF (identityOf l)) IdentityRange _ (p1 .1) in
     let p3 = past (isReserved (identityOf l)) IdentityReserved _ (p2 .1) in
-    let p4 = kind-sound (pageFrom at l) (textDigits l) (p3 .1) in
-    record { formed = p1 .0; in-range = ltb-false _ _ (p2 .0); free = p3 .0; kinds = p4 .0; same = p4 .1 }
+    record { formed = p1 .0; in-range = ltb-false _ _ (p2 .0); free = p3 .0; kinds = kind-good b (pageFrom at l) (textDigits l) (p3 .1) }
 
-pub sound : (at : ℕ) (l : List ℕ) {p : Page} → lineOf at l ≡ Good p → Sound l
-sound at l e =
-    let t = passed at l e in
+-- a line with a text of its own
+pub sound : (l : List ℕ) → wellFormed l ≡ true → identityOf l ≤ 0x1FFFFF → isReserved (identityOf l) ≡ false → KindSound (kindOf l) (textDigits l) → Sound l
+sound l formed in-range free kinds =
     record {
-      formed = t .formed;
-      in-range = t .in-range;
-      free = t .free;
-      known = t .kinds .known;
-      text = t .kinds .text;
-      grouped = t .kinds .grouped;
-      function = function-small (kindOf l) (t .kinds .known);
-      brief = few-codewords (kindOf l) (textDigits l) (t .kinds);
-      short = few-digits l (t .formed) (t .kinds);
+      formed = formed;
+      in-range = in-range;
+      free = free;
+      known = kinds .known;
+      text = kinds .text;
+      grouped = kinds .grouped;
+      function = function-small (kindOf l) (kinds .known);
+      brief = few-codewords (kindOf l) (textDigits l) kinds;
+      short = few-digits l formed kinds;
     }
-
--- and what it says is its page
-pub good-is : (at : ℕ) (l : List ℕ) {p : Page} → lineOf at l ≡ Good p → Good p ≡ Good (pageFrom at l)
-good-is at l e = passed at l e .same

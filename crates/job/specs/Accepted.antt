@@ -2,15 +2,19 @@
 use Prim.Native.Nat.{ℕ, _%_, _≤_, _<_}
 use mathlib.Core.Path.{_≡_}
 use mathlib.Core.List.{List}
-use mathlib.Core.Bool.{true, false}
+use mathlib.Core.Bool.{true, false, cond}
 use lib.ListN.{length, getD}
+use lib.Dec.{eqb}
 use Rattle.base.specs.Leading.{leading}
 use Rattle.base.specs.Lines.{split, lineAt}
 use Rattle.text.specs.Coding.{charOk, endsInSpace}
 use Rattle.job.specs.Line.{wellFormed, isReserved, longestOf, codingOf, functionOf, identityOf, kindOf, textDigits, textOf}
 use Rattle.job.specs.Message.{countFrom}
-use Rattle.job.specs.Pages.{pagesOf, noPage, pageAt, digitsAt}
+use Rattle.phrases.specs.Book.{phraseOf}
+use Rattle.job.specs.Submission.{Submission}
+use Rattle.job.specs.Pages.{pagesOf, noPage, pageAt, digitsAt, plainAt}
 use Rattle.job.specs.Job.{readingOf}
+use Rattle.job.specs.declared.Source.the-variants.{Job, Book}
 
 -- a text of kinds 0 to 5: how many characters it has, each of them the kind's, and no space at the end of a numeric one
 pub record TextSound (kind : ℕ) (bytes : List ℕ) : Type 0 where
@@ -26,7 +30,7 @@ pub record DataSound (digits : List ℕ) : Type 0 where
   pub some : 1 ≤ length digits
   pub most : length digits ≤ 420
 
--- a line that is not refused
+-- what a line stands for that is not refused
 pub record Sound (l : List ℕ) : Type 0 where
   -- the form, the identity, the kind, the text
   pub formed : wellFormed l ≡ true
@@ -41,18 +45,22 @@ pub record Sound (l : List ℕ) : Type 0 where
   pub short : length (textDigits l) ≤ 480
 
 -- the page at index p of a job
-pub record PageRead (s : List ℕ) (p : ℕ) : Type 0 where
-  -- it is what its line says, and reading the job returns it
-  pub identity-is : pageAt s p .identity ≡ identityOf (lineAt p (split s))
-  pub kind-is : pageAt s p .kind ≡ kindOf (lineAt p (split s))
-  pub digits-are : digitsAt s p ≡ textDigits (lineAt p (split s))
+pub record PageRead (s : Submission) (p : ℕ) : Type 0 where
+  -- it is what its line stands for, and reading the job returns it
+  pub identity-is : pageAt s p .identity ≡ identityOf (plainAt s p)
+  pub kind-is : pageAt s p .kind ≡ kindOf (plainAt s p)
+  pub digits-are : digitsAt s p ≡ textDigits (plainAt s p)
   pub length-is : pageAt s p .length ≡ length (digitsAt s p)
   pub read : getD (readingOf s .pages) p noPage ≡ pageAt s p
+  -- its text stands in the book where the line has kind 9, and is the phrase that the line names, sent as kind 5; else it stands in the job
+  pub source-is : pageAt s p .source ≡ cond (eqb (kindOf (lineAt p (split (s .job)))) 9) Book Job
+  pub phrased : kindOf (lineAt p (split (s .job))) ≡ 9
+      → (pageAt s p .kind ≡ 5) × (digitsAt s p ≡ phraseOf (s .book) (textDigits (lineAt p (split (s .job)))))
 
 -- a job of n pages: 1 to 48, each of a sound line
-pub record AcceptedJob (s : List ℕ) (n : ℕ) : Type 0 where
+pub record AcceptedJob (s : Submission) (n : ℕ) : Type 0 where
   pub least : 1 ≤ n
   pub most : n ≤ 48
   pub pages : length (pagesOf s) ≡ n
-  pub sound : (p : ℕ) → p < n → Sound (lineAt p (split s))
+  pub sound : (p : ℕ) → p < n → Sound (plainAt s p)
   pub page : (p : ℕ) → p < n → PageRead s p

@@ -7,6 +7,7 @@ use lib.ListN.{length, getD}
 use Rattle.base.specs.Lines.{split, lineAt}
 use Rattle.text.specs.Coding.{charOk}
 use Rattle.job.specs.Line.{codingOf, kindOf, textOf}
+use Rattle.job.specs.Submission.{Submission}
 use Rattle.job.specs.Job.{jobOf}
 use Rattle.job.specs.Refusal.{jobNumber, jobPlace, jobPosition}
 
@@ -19,6 +20,6 @@ pub record FirstBad (kind : ℕ) (bytes : List ℕ) (position : ℕ) : Type 0 wh
 -- a job declined by number 6: in the line that its place counts from 1
 abbrev pub Positioned : Type 0
 Positioned =
-    (s : List ℕ) → jobNumber (jobOf s) ≡ 6
+    (s : Submission) → jobNumber (jobOf s) ≡ 6
     → (1 ≤ jobPlace (jobOf s))
-    × FirstBad (kindOf (lineAt (jobPlace (jobOf s) - 1) (split s))) (textOf (lineAt (jobPlace (jobOf s) - 1) (split s))) (jobPosition (jobOf s))
+    × FirstBad (kindOf (lineAt (jobPlace (jobOf s) - 1) (split (s .job)))) (textOf (lineAt (jobPlace (jobOf s) - 1) (split (s .job)))) (jobPosition (jobOf s))

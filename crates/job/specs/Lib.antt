@@ -1,4 +1,5 @@
 pub mod Refusal
+pub mod Submission
 pub mod Line
 pub mod Message
 pub mod Pages

@@ -1,5 +1,6 @@
 -- What one page line says, without its newline: a page, or its first refusal in the order of the table (document 01, "Page lines"),
--- where 12, 13 and 14 have 5's rank, between 4 and 6 (request R-1), and 25 comes between 4 and them (request R-11).
+-- where 12, 13 and 14 have 5's rank, between 4 and 6 (request R-1), 25 comes between 4 and them (request R-11), and 18 has their rank
+-- (request R-6).
 use Prim.Native.Nat.{ℕ, _+_, _-_, _/_, _%_}
 use mathlib.Core.Path.{_≡_}
 use mathlib.Core.List.{List}
@@ -11,7 +12,11 @@ use Rattle.base.specs.Leading.{leading}
 use Rattle.text.specs.Coding.{charOk, endsInSpace}
 use Rattle.text.specs.declared.Coding.{Coding}
 use Rattle.text.specs.declared.Coding.the-variants.{Numeric, Alphanumeric}
-use Rattle.job.specs.declared.Refusal.the-variants.{Malformed, IdentityRange, IdentityReserved, UnknownKind, PartialGroup, ToneWithText, TextMissing, TextTooLong, Character, TrailingSpace}
+use Rattle.phrases.specs.Book.{hasBook, phraseFor}
+use Rattle.phrases.specs.declared.Phrase.{Phrase}
+use Rattle.phrases.specs.declared.Phrase.the-variants.{At, Missing}
+use Rattle.job.specs.declared.Refusal.the-variants.{Malformed, IdentityRange, IdentityReserved, UnknownKind, PartialGroup, ToneWithText, TextMissing, TextTooLong, NoPhrase, Character, TrailingSpace}
+use Rattle.job.specs.declared.Source.the-variants.{Job, Book}
 use Rattle.job.specs.declared.Page.{Page}
 use Rattle.job.specs.declared.LineAnswer.{LineAnswer}
 use Rattle.job.specs.declared.LineAnswer.the-variants.{Good, Faulty}
@@ -34,9 +39,9 @@ textDigits l = drop 9 l
 abbrev pub textOf : List ℕ → List ℕ
 textOf l = bytesOf (textDigits l)
 
--- the page of a line that starts at byte `at`; its text's digits stand behind six digits, a space, a digit and a space
+-- the page of a line with a text of its own that starts at byte `at`; the text's digits stand behind six digits, a space, a digit and a space
 abbrev pub pageFrom : ℕ → List ℕ → Page
-pageFrom at l = record { identity = identityOf l; kind = kindOf l; start = at + 9; length = length l - 9 }
+pageFrom at l = record { identity = identityOf l; kind = kindOf l; source = Job; start = at + 9; length = length l - 9 }
 
 -- ---- identities and kinds
 
@@ -121,21 +126,27 @@ dataPageOf page digits =
     (cond (ltb 84 (length digits / 5)) (Faulty TextTooLong)
     (Good page)))
 
--- by the kind, which is 0 to 7 (number 4)
-unfoldable pub kindPageOf : Page → List ℕ → LineAnswer
-kindPageOf page digits =
+-- kind 9: a page of kind 5 with the phrase of the book that the digits name; where they name none, number 18
+abbrev pub phrasePageOf : Page → Phrase → LineAnswer
+phrasePageOf page (At start count) = Good (record { identity = page .identity; kind = 5; source = Book; start = start; length = count })
+phrasePageOf page Missing = Faulty NoPhrase
+
+-- by the kind, which is 0 to 7, or 9 where there is a book (number 4)
+unfoldable pub kindPageOf : List ℕ → Page → List ℕ → LineAnswer
+kindPageOf b page digits =
     cond (between 0 3 (page .kind)) (tonePageOf page digits)
     (cond (between 4 5 (page .kind)) (textPageOf page (bytesOf digits))
     (cond (isData (page .kind)) (dataPageOf page digits)
-    (Faulty UnknownKind)))
+    (cond (eqb (page .kind) 9 && hasBook b) (phrasePageOf page (phraseFor b digits))
+    (Faulty UnknownKind))))
 
 -- the identity is at most 1FFFFF (number 2) and not reserved (number 3)
-unfoldable pub pageOf : Page → List ℕ → LineAnswer
-pageOf page digits =
+unfoldable pub pageOf : List ℕ → Page → List ℕ → LineAnswer
+pageOf b page digits =
     cond (ltb 0x1FFFFF (page .identity)) (Faulty IdentityRange)
     (cond (isReserved (page .identity)) (Faulty IdentityReserved)
-    (kindPageOf page digits))
+    (kindPageOf b page digits))
 
--- what a line says that starts at byte `at`
-unfoldable pub lineOf : ℕ → List ℕ → LineAnswer
-lineOf at l = cond (wellFormed l) (pageOf (pageFrom at l) (textDigits l)) (Faulty Malformed)
+-- what a line says that starts at byte `at`, with the book b
+unfoldable pub lineOf : List ℕ → ℕ → List ℕ → LineAnswer
+lineOf b at l = cond (wellFormed l) (pageOf b (pageFrom at l) (textDigits l)) (Faulty Malformed)

@@ -1,10 +1,10 @@
--- The numbers and places of document 01's table and of requests R-1 and R-11, for each case of an answer.
+-- The numbers and places of document 01's table and of requests R-1, R-6 and R-11, for each case of an answer.
 use Prim.Native.Nat.{ℕ}
 use mathlib.Core.Bool.{Bool, _||_}
 use lib.Dec.{eqb}
 use Rattle.base.specs.Hex.{between}
 use Rattle.job.specs.declared.Refusal.{Refusal}
-use Rattle.job.specs.declared.Refusal.the-variants.{Malformed, IdentityRange, IdentityReserved, UnknownKind, PartialGroup, ToneWithText, TextMissing, TextTooLong, Character, TrailingSpace, TooManyLines, EmptyJob}
+use Rattle.job.specs.declared.Refusal.the-variants.{Malformed, IdentityRange, IdentityReserved, UnknownKind, PartialGroup, ToneWithText, TextMissing, TextTooLong, NoPhrase, Character, TrailingSpace, TooManyLines, EmptyJob, BadBook}
 use Rattle.job.specs.declared.JobAnswer.{JobAnswer}
 use Rattle.job.specs.declared.JobAnswer.the-variants.{Accepted, Refused}
 
@@ -18,10 +18,12 @@ numberOf PartialGroup = 25
 numberOf ToneWithText = 12
 numberOf TextMissing = 13
 numberOf TextTooLong = 14
+numberOf NoPhrase = 18
 numberOf (Character position) = 6
 numberOf TrailingSpace = 7
 numberOf TooManyLines = 8
 numberOf EmptyJob = 9
+numberOf BadBook = 19
 
 -- its second place: with number 6 the position of the first bad character, 0 with every other number
 abbrev pub positionOf : Refusal → ℕ
@@ -33,14 +35,16 @@ positionOf PartialGroup = 0
 positionOf ToneWithText = 0
 positionOf TextMissing = 0
 positionOf TextTooLong = 0
+positionOf NoPhrase = 0
 positionOf (Character position) = position
 positionOf TrailingSpace = 0
 positionOf TooManyLines = 0
 positionOf EmptyJob = 0
+positionOf BadBook = 0
 
 -- the numbers that decline a job
 abbrev pub declinesJob : ℕ → Bool
-declinesJob n = between 1 4 n || (eqb n 25 || (between 12 14 n || between 6 9 n))
+declinesJob n = between 1 4 n || (eqb n 25 || (between 12 14 n || (between 18 19 n || between 6 9 n)))
 
 -- the number of a job's answer; 0 for an accepted job
 abbrev pub jobNumber : JobAnswer → ℕ

@@ -4,6 +4,7 @@ use mathlib.Core.Path.{_≡_}
 use mathlib.Core.Bool.{true}
 use mathlib.Core.List.{List}
 use lib.ListN.{length}
+use Rattle.job.specs.Submission.{Submission}
 use Rattle.job.specs.Job.{jobOf}
 use Rattle.job.specs.Print.{printingOf, bytesPrinted, numberOf, placeOf}
 use Rattle.job.specs.Refusal.{declinesJob, jobNumber, jobPlace, jobPosition, jobPages}
@@ -15,8 +16,8 @@ pub record LineSettled (room : ℕ) (line : List ℕ) : Type 0 where
   pub unplaced : placeOf (printingOf room line) ≡ 0
 
 -- a job has at most 48 pages, and none where it is refused; an accepted one has no place, and at most 48 lines of 490 bytes
-pub record JobSettled (s : List ℕ) : Type 0 where
-  pub short : jobNumber (jobOf s) ≡ 0 → length s ≤ 23520
+pub record JobSettled (s : Submission) : Type 0 where
+  pub short : jobNumber (jobOf s) ≡ 0 → length (s .job) ≤ 23520
   pub few : jobPages (jobOf s) ≤ 48
   pub none : (jobNumber (jobOf s) ≡ 0 → ⊥) → jobPages (jobOf s) ≡ 0
   pub unplaced : jobNumber (jobOf s) ≡ 0 → jobPlace (jobOf s) ≡ 0

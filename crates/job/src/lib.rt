@@ -1,4 +1,5 @@
-// Reads a job's page lines (document 01, "Page lines" and the table of refusals, with requests R-1 and R-11).
+// Reads a job's page lines with its phrase book (document 01, "Page lines" and the table of refusals, with requests R-1, R-6 and R-11). An
+// empty book is none.
 ghost use mathlib.Core.Path.{_≡_};
 ghost use mathlib.Core.Bool.{cond};
 ghost use mathlib.Core.List.{[]};
@@ -7,18 +8,22 @@ ghost use lib.ListN.{length, take, drop, replicate};
 ghost use Rattle.base.specs.Hex.{isHex, bytesOf};
 ghost use Rattle.base.specs.Leading.{leading};
 ghost use Rattle.base.specs.Lines.{split};
+ghost use Rattle.base.specs.Part.{PointsInto};
+ghost use Rattle.phrases.specs.Book.{hasBook, phraseFor};
 ghost use Rattle.job.specs.Refusal.{numberOf, positionOf, jobNumber, jobPlace, jobPosition};
-ghost use Rattle.job.specs.Line.{isData, isReserved, longestOf, codingOf, functionOf, goodRun, Counted, isDigits, isPairs, headFormed, textFormed, tailFormed, tonePageOf, textPageOf, dataPageOf, kindPageOf, pageOf, lineOf};
+ghost use Rattle.job.specs.Line.{isData, isReserved, longestOf, codingOf, functionOf, goodRun, Counted, isDigits, isPairs, headFormed, textFormed, tailFormed, tonePageOf, textPageOf, dataPageOf, phrasePageOf, kindPageOf, pageOf, lineOf};
 ghost use Rattle.job.specs.Message.{groupFrom, countFrom};
+ghost use Rattle.job.specs.Submission.{withBook, sourceOf};
 ghost use Rattle.job.specs.Pages.{pagesOf, noPage, digitsIn};
 ghost use Rattle.base.specs.Lists.{over, tab};
 ghost use Rattle.job.specs.Print.{headOf, spaced, ending, printed, printingOf, bytesPrinted};
 ghost use Rattle.job.specs.Job.{judge, tableOf, answerWith, readingOf};
-ghost use Rattle.job.specs.declared.Refusal.the-variants.{Malformed};
+ghost use Rattle.job.specs.declared.Refusal.the-variants.{Malformed, UnknownKind};
 ghost use Rattle.job.specs.declared.LineAnswer.the-variants.{Faulty};
+use phrases::Phrase;
 use text::Coding;
 
-// Why a job is declined: a line's refusals in the order of their rank, then the two of the whole job.
+// Why a job is declined: a line's refusals in the order of their rank, then the two of the whole job, then its book's.
 pub enum Refusal {
     Malformed,
     IdentityRange,
@@ -28,18 +33,27 @@ pub enum Refusal {
     ToneWithText,
     TextMissing,
     TextTooLong,
+    NoPhrase,
     // The first bad character's position in the text, counted from 1.
     Character(usize),
     TrailingSpace,
     TooManyLines,
     EmptyJob,
+    BadBook,
 }
 
-// A page: its identity, its kind, the byte of the job at which the digits of its text start, and how many they are. No byte of it is
-// unused, so that an array of them is cleared at once.
+// Where a page's text stands.
+pub enum Source {
+    Job,
+    Book,
+}
+
+// A page: its identity, the kind as which it is sent, the byte of the job or of the book at which the digits of its text start, and how
+// many they are.
 pub struct Page {
     pub identity: u32,
     pub kind: u32,
+    pub source: Source,
     pub start: usize,
     pub length: usize,
 }
@@ -53,7 +67,7 @@ enum LineAnswer {
 pub enum JobAnswer {
     // The number of pages.
     Accepted(usize),
-    // The place is a line, counted from 1; 0 for the job as a whole.
+    // The place is a line of the job, or of a bad book, counted from 1; 0 for the job as a whole.
     Refused { why: Refusal, place: usize },
 }
 
@@ -76,10 +90,12 @@ fn refusal_number(why: Refusal) -> u32
         Refusal::ToneWithText => 12,
         Refusal::TextMissing => 13,
         Refusal::TextTooLong => 14,
+        Refusal::NoPhrase => 18,
         Refusal::Character(_) => 6,
         Refusal::TrailingSpace => 7,
         Refusal::TooManyLines => 8,
         Refusal::EmptyJob => 9,
+        Refusal::BadBook => 19,
     }
 }
 
@@ -116,10 +132,12 @@ fn refusal_position(why: Refusal) -> usize
         Refusal::ToneWithText => 0,
         Refusal::TextMissing => 0,
         Refusal::TextTooLong => 0,
+        Refusal::NoPhrase => 0,
         Refusal::Character(position) => position,
         Refusal::TrailingSpace => 0,
         Refusal::TooManyLines => 0,
         Refusal::EmptyJob => 0,
+        Refusal::BadBook => 0,
     }
 }
 
@@ -304,24 +322,44 @@ fn judge_data(page: Page, digits: &[u8]) -> LineAnswer
     LineAnswer::Good(page)
 }
 
+// A page with a phrase of the book, or number 18; without a book, number 4.
+fn judge_phrase(page: Page, digits: &[u8], book: &[u8]) -> LineAnswer
+    ensures { λ r. ⌜ r ≡ cond (hasBook (now (book .entry))) (phrasePageOf page (phraseFor (now (book .entry)) (now (digits .entry)))) (Faulty UnknownKind) ⌝ }
+{
+    if book.len() == 0 {
+        return LineAnswer::Faulty(Refusal::UnknownKind);
+    }
+    match phrases::find_phrase(book, digits) {
+        Phrase::Missing => LineAnswer::Faulty(Refusal::NoPhrase),
+        Phrase::At { start, length } => LineAnswer::Good(Page {
+            identity: page.identity,
+            kind: 5,
+            source: Source::Book,
+            start: start,
+            length: length,
+        }),
+    }
+}
+
 // The page by its kind, or number 4 or its text's refusal.
-fn judge_kind(page: Page, text: &[u8], good: usize) -> LineAnswer
+fn judge_kind(page: Page, text: &[u8], good: usize, book: &[u8]) -> LineAnswer
     requires { ⌜ Counted (page .kind) (now text) good ⌝ }
-    ensures { λ r. ⌜ r ≡ kindPageOf page (now (text .entry)) ⌝ }
+    ensures { λ r. ⌜ r ≡ kindPageOf (now (book .entry)) page (now (text .entry)) ⌝ }
 {
     let kind = page.kind;
     match kind {
         0..=3 => judge_tone(page, text),
         4 | 5 => judge_text(page, text, good),
         6 | 7 => judge_data(page, text),
+        9 => judge_phrase(page, text, book),
         _ => LineAnswer::Faulty(Refusal::UnknownKind),
     }
 }
 
 // The page of a well-formed line, or its first refusal.
-fn judge_page(page: Page, text: &[u8], good: usize) -> LineAnswer
+fn judge_page(page: Page, text: &[u8], good: usize, book: &[u8]) -> LineAnswer
     requires { ⌜ Counted (page .kind) (now text) good ⌝ }
-    ensures { λ r. ⌜ r ≡ pageOf page (now (text .entry)) ⌝ }
+    ensures { λ r. ⌜ r ≡ pageOf (now (book .entry)) page (now (text .entry)) ⌝ }
 {
     let identity = page.identity;
     if 0x1FFFFF < identity {
@@ -330,47 +368,47 @@ fn judge_page(page: Page, text: &[u8], good: usize) -> LineAnswer
     if is_reserved(identity) {
         return LineAnswer::Faulty(Refusal::IdentityReserved);
     }
-    judge_kind(page, text, good)
+    judge_kind(page, text, good, book)
 }
 
 // The page of what must be pairs, or its first refusal. A text is passed over once: digits and characters together up to the first bad
 // character, and only digits behind it.
-fn judge_pairs(page: Page, text: &[u8]) -> LineAnswer
-    ensures { λ r. ⌜ r ≡ cond (isPairs (now (text .entry))) (pageOf page (now (text .entry))) (Faulty Malformed) ⌝ }
+fn judge_pairs(page: Page, text: &[u8], book: &[u8]) -> LineAnswer
+    ensures { λ r. ⌜ r ≡ cond (isPairs (now (text .entry))) (pageOf (now (book .entry)) page (now (text .entry))) (Faulty Malformed) ⌝ }
 {
     let kind = page.kind;
     let good = text::char_run(coding(kind), text);
     if is_pairs(text, good) {
-        return judge_page(page, text, good);
+        return judge_page(page, text, good, book);
     }
     LineAnswer::Faulty(Refusal::Malformed)
 }
 
 // The page of a text, which must be pairs, or digits where it is data; or its first refusal.
-fn judge_digits(page: Page, text: &[u8]) -> LineAnswer
-    ensures { λ r. ⌜ r ≡ cond (textFormed (page .kind) (now (text .entry))) (pageOf page (now (text .entry))) (Faulty Malformed) ⌝ }
+fn judge_digits(page: Page, text: &[u8], book: &[u8]) -> LineAnswer
+    ensures { λ r. ⌜ r ≡ cond (textFormed (page .kind) (now (text .entry))) (pageOf (now (book .entry)) page (now (text .entry))) (Faulty Malformed) ⌝ }
 {
     let kind = page.kind;
     if !is_data(kind) {
-        return judge_pairs(page, text);
+        return judge_pairs(page, text, book);
     }
     if !is_digits(text) {
         return LineAnswer::Faulty(Refusal::Malformed);
     }
-    judge_page(page, text, 0)
+    judge_page(page, text, 0, book)
 }
 
 // The page by what stands behind its kind, which must be nothing, or a space and a text; or its first refusal.
-fn judge_tail(page: Page, t: &[u8]) -> LineAnswer
-    ensures { λ r. ⌜ r ≡ cond (tailFormed (page .kind) (now (t .entry))) (pageOf page (drop 1 (now (t .entry)))) (Faulty Malformed) ⌝ }
+fn judge_tail(page: Page, t: &[u8], book: &[u8]) -> LineAnswer
+    ensures { λ r. ⌜ r ≡ cond (tailFormed (page .kind) (now (t .entry))) (pageOf (now (book .entry)) page (drop 1 (now (t .entry)))) (Faulty Malformed) ⌝ }
 {
     if t.len() == 0 {
-        return judge_page(page, t, 0);
+        return judge_page(page, t, 0, book);
     }
     if t[0] != b' ' {
         return LineAnswer::Faulty(Refusal::Malformed);
     }
-    judge_digits(page, &t[1..])
+    judge_digits(page, &t[1..], book)
 }
 
 // How many digits of text a line of n bytes has, behind six digits, a space, a digit and a space.
@@ -381,9 +419,9 @@ fn text_length(n: usize) -> usize
 }
 
 // What a line, without its newline, says; it starts at this byte of the job.
-fn read_line(line: &[u8], at: usize) -> LineAnswer
+fn read_line(line: &[u8], at: usize, book: &[u8]) -> LineAnswer
     requires { ⌜ at < 2 ^ 63 ⌝ }
-    ensures { λ r. ⌜ r ≡ lineOf at (now (line .entry)) ⌝ }
+    ensures { λ r. ⌜ r ≡ lineOf (now (book .entry)) at (now (line .entry)) ⌝ }
 {
     if !head_formed(line) {
         return LineAnswer::Faulty(Refusal::Malformed);
@@ -393,10 +431,11 @@ fn read_line(line: &[u8], at: usize) -> LineAnswer
     let page = Page {
         identity: identity,
         kind: kind,
+        source: Source::Job,
         start: at + 9,
         length: text_length(line.len()),
     };
-    judge_tail(page, &line[8..])
+    judge_tail(page, &line[8..], book)
 }
 
 // Room for 48 pages.
@@ -406,6 +445,7 @@ fn no_pages() -> [Page; 48]
     let none = Page {
         identity: 0,
         kind: 0,
+        source: Source::Job,
         start: 0,
         length: 0,
     };
@@ -426,8 +466,8 @@ fn refused(why: Refusal, place: usize) -> Pages
 }
 
 // The pages of lines, or the refusal of the first faulty one. They are read once, front to back.
-fn read_lines(job: &[u8]) -> Pages
-    ensures { λ r. ⌜ r ≡ answerWith (judge 0 0 (split (now (job .entry)))) (pagesOf (now (job .entry))) ⌝ }
+fn read_lines(job: &[u8], book: &[u8]) -> Pages
+    ensures { λ r. ⌜ r ≡ answerWith (judge (now (book .entry)) 0 0 (split (now (job .entry)))) (pagesOf (withBook (now (job .entry)) (now (book .entry)))) ⌝ }
 {
     let mut pages = no_pages();
     let mut at = 0;
@@ -440,7 +480,7 @@ fn read_lines(job: &[u8]) -> Pages
         if job.len() <= end {
             return refused(Refusal::Malformed, k + 1);
         }
-        match read_line(&job[at..end], at) {
+        match read_line(&job[at..end], at, book) {
             LineAnswer::Faulty(why) => return refused(why, k + 1),
             LineAnswer::Good(page) => {
                 pages[k] = page;
@@ -455,21 +495,30 @@ fn read_lines(job: &[u8]) -> Pages
     }
 }
 
-// The pages of a job, or its refusal.
-pub fn read_job(job: &[u8]) -> Pages
-    ensures { λ r. ⌜ r ≡ readingOf (now (job .entry)) ⌝ }
+// The pages of a job with its phrase book, or the refusal of the one or the other.
+pub fn read_job(job: &[u8], book: &[u8]) -> Pages
+    ensures { λ r. ⌜ r ≡ readingOf (withBook (now (job .entry)) (now (book .entry))) ⌝ }
 {
+    let fault = phrases::book_fault(book);
+    if 0 < fault {
+        return refused(Refusal::BadBook, fault);
+    }
     if job.len() == 0 {
         return refused(Refusal::EmptyJob, 0);
     }
-    read_lines(job)
+    read_lines(job, book)
 }
 
-// The digits of a page's text, a part of the job that starts mid-line.
-pub fn page_text(job: &[u8], page: Page) -> &[u8]
-    ensures { λ r. ⌜ now r ≡ digitsIn (now (job .entry)) page ⌝ }
+// The digits of a page's text: a part of the job, which starts mid-line, or of the book, and never a copy.
+pub fn page_text<'a>(job: &'a [u8], book: &'a [u8], page: Page) -> &'a [u8]
+    ensures { λ r. ⌜ PointsInto r (sourceOf (page .source) (job .entry) (book .entry)) (page .start) ⌝ }
+    ensures { λ r. ⌜ now r ≡ digitsIn (withBook (now (job .entry)) (now (book .entry))) page ⌝ }
 {
-    base::part(job, page.start, page.length)
+    let source = page.source;
+    match source {
+        Source::Job => base::part(job, page.start, page.length),
+        Source::Book => base::part(book, page.start, page.length),
+    }
 }
 
 // What printing a page line answers.

@@ -9,6 +9,7 @@ use lib.Seq.{take-all, take-at}
 use lib.Dec.{ltb}
 use borrow.Author.Tests.{le-ltb}
 use Rattle.base.specs.Lists.{over}
+use Rattle.job.specs.Submission.{Submission}
 use Rattle.job.specs.Job.{jobOf}
 use Rattle.job.specs.declared.Refusal.{Refusal}
 use Rattle.job.specs.declared.JobAnswer.{JobAnswer}
@@ -52,12 +53,12 @@ front-written ws room = go (ltb room (9 * length ws))
 
 -- ---- a job's answer, where its report is known
 
-pub record Sends (s : List ℕ) (m : ℕ) : Type 0 where
+pub record Sends (s : Submission) (m : ℕ) : Type 0 where
   pub answer : (room : ℕ) → listedOf s room ≡ writtenInto room (listingText s)
   pub size : m ≡ length (transmissionOf (sendingsOf s))
   pub fits : m ≤ 5118
 
-module _ (s : List ℕ) where
+module _ (s : Submission) where
   enough : (n : ℕ) → jobOf s ≡ Accepted n → (ltb 5118 (wordCount (placementOf (sendingsOf s))) ≡ false) × (ltb 48 (length (sendingsOf s)) ≡ false)
   enough n e =
       let a = accepted-sendings s n e in
@@ -108,5 +109,5 @@ module _ (s : List ℕ) where
   roomy q = not-short (jobOf s) refl (sym q)
 
 -- the words that were sent, out of the slice that they stand in
-pub front : (s w : List ℕ) (m : ℕ) → m ≡ length (transmissionOf (sendingsOf s)) → take m (over w (transmissionOf (sendingsOf s))) ≡ transmissionOf (sendingsOf s)
+pub front : (s : Submission) (w : List ℕ) (m : ℕ) → m ≡ length (transmissionOf (sendingsOf s)) → take m (over w (transmissionOf (sendingsOf s))) ≡ transmissionOf (sendingsOf s)
 front s w m e = take-at (transmissionOf (sendingsOf s)) (drop (length (transmissionOf (sendingsOf s))) w) m (sym e)

@@ -7,6 +7,7 @@ use native.Mathlib.Omega.{arith}
 use lib.ListN.{length}
 use lib.Dec.{ltb}
 use borrow.Author.Tests.{ltb-false, le-ltb}
+use Rattle.job.specs.Submission.{Submission}
 use Rattle.job.specs.Job.{jobOf}
 use Rattle.job.specs.Refusal.{jobNumber, jobPlace, jobPosition}
 use Rattle.job.specs.declared.JobAnswer.{JobAnswer}
@@ -32,18 +33,18 @@ by-answer (Accepted pages) room text n e =
 by-answer (Refused why place) room text n e = let z : _≡_ {A = ℕ} 0 1 = cc in absurd (omega arith)
 
 -- where n bytes are written, the job is accepted, its listing has n bytes, and there is room for them
-pub listed-written : (s : List ℕ) (room n : ℕ) → listedOf s room ≡ Written n → (pages : ℕ) × (jobOf s ≡ Accepted pages) × (length (listingText s) ≡ n) × (n ≤ room)
+pub listed-written : (s : Submission) (room n : ℕ) → listedOf s room ≡ Written n → (pages : ℕ) × (jobOf s ≡ Accepted pages) × (length (listingText s) ≡ n) × (n ≤ room)
 unfolding listedOf
 listed-written s room n e = by-answer (jobOf s) room (listingText s) n e
 
 -- the listing of an accepted job has at most 46,062 bytes
-pub listing-short : (s : List ℕ) (n : ℕ) → jobOf s ≡ Accepted n → length (listingText s) ≤ 46062
+pub listing-short : (s : Submission) (n : ℕ) → jobOf s ≡ Accepted n → length (listingText s) ≤ 46062
 listing-short s n e =
     let a = accepted-sendings s n e in
     let few = sendings-limits a .most in
     omega (arith, text-length 0 (transmissionOf (sendingsOf s)), transmission-length (codewordsOf (sendingsOf s)) (placementOf (sendingsOf s)))
 
-enough-by : (s : List ℕ) (room : ℕ) → 46062 ≤ room → (a : JobAnswer) → jobOf s ≡ a
+enough-by : (s : Submission) (room : ℕ) → 46062 ≤ room → (a : JobAnswer) → jobOf s ≡ a
     → (numberOf (answered a room (listingText s)) ≡ jobNumber a) × (placeOf (answered a room (listingText s)) ≡ jobPlace a)
     × (positionOf (answered a room (listingText s)) ≡ jobPosition a)
 enough-by s room h (Accepted n) e = let fits = le-ltb room (length (listingText s)) (omega (arith, listing-short s n e)) in (rw fits, rw fits, rw fits)

@@ -1,7 +1,7 @@
 -- How much room a listing takes at most.
 use mathlib.Core.Path.{_≡_}
-use mathlib.Core.List.{List}
 use Prim.Native.Nat.{ℕ, _≤_}
+use Rattle.job.specs.Submission.{Submission}
 use Rattle.job.specs.Job.{jobOf}
 use Rattle.job.specs.Refusal.{jobNumber, jobPlace, jobPosition}
 use Rattle.job_listing.specs.Listed.{listedOf, numberOf, placeOf, positionOf}
@@ -10,5 +10,5 @@ use Rattle.job_listing.specs.Listed.{listedOf, numberOf, placeOf, positi
 -- and places. `enough` in proofs/RoomLaws.antt proves it
 abbrev pub Enough : Type 0
 Enough =
-    (s : List ℕ) (room : ℕ) → 46062 ≤ room
+    (s : Submission) (room : ℕ) → 46062 ≤ room
     → (numberOf (listedOf s room) ≡ jobNumber (jobOf s)) × (placeOf (listedOf s room) ≡ jobPlace (jobOf s)) × (positionOf (listedOf s room) ≡ jobPosition (jobOf s))

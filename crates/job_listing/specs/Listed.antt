@@ -1,9 +1,10 @@
--- A job straight to its listing: what the call answers, and what it leaves in the lent slice of bytes.
+-- A job with its phrase book straight to its listing: what the call answers, and what it leaves in the lent slice of bytes.
 use Prim.Native.Nat.{ℕ}
 use mathlib.Core.Bool.{cond}
 use mathlib.Core.List.{List, []}
 use lib.ListN.{length}
 use lib.Dec.{ltb}
+use Rattle.job.specs.Submission.{Submission}
 use Rattle.job.specs.Job.{jobOf}
 use Rattle.job.specs.Refusal as refusal
 use Rattle.job.specs.declared.JobAnswer.{JobAnswer}
@@ -15,7 +16,7 @@ use Rattle.job_listing.specs.declared.Listed.{Listed}
 use Rattle.job_listing.specs.declared.Listed.the-variants.{Written, Declined, NoRoom}
 
 -- the listing of a job's transmission
-abbrev pub listingText : List ℕ → List ℕ
+abbrev pub listingText : Submission → List ℕ
 listingText s = textOf (transmissionOf (sendingsOf s))
 
 -- a text into room for so many bytes: number 10 where it is longer
@@ -28,7 +29,7 @@ answered (Refused why place) room text = Declined why place
 answered (Accepted n) room text = writtenInto room text
 
 -- the answer to a job
-unfoldable pub listedOf : List ℕ → ℕ → Listed
+unfoldable pub listedOf : Submission → ℕ → Listed
 listedOf s room = answered (jobOf s) room (listingText s)
 
 -- what is written over the front of the bytes: nothing where the job is declined

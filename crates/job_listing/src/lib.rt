@@ -1,8 +1,9 @@
-// A job straight to its listing: what the sending program does with its input.
+// A job with its phrase book straight to its listing: what the sending program does with its input.
 ghost use mathlib.Core.Path.{_≡_};
 ghost use Prim.Native.Nat.{_≤_};
 ghost use lib.ListN.{length, take};
 ghost use Rattle.base.specs.Lists.{over};
+ghost use Rattle.job.specs.Submission.{withBook};
 ghost use Rattle.listing.specs.Text.{textOf};
 ghost use Rattle.job_listing.specs.Listed.{listingText, listedOf, writtenInto, bytesListed, numberOf, placeOf, positionOf};
 use job::JobAnswer;
@@ -59,14 +60,14 @@ pub fn position(a: Listed) -> usize
     }
 }
 
-// Writes the listing of a job's transmission over the front of the slice.
-pub fn list_job(job: &[u8], out: &mut [u8]) -> Listed
-    ensures { λ r. ⌜ r ≡ listedOf (now (job .entry)) (length (now (out .entry))) ⌝ }
-    ensures { λ r. ⌜ now (out .exit) ≡ over (now (out .entry)) (bytesListed r (listingText (now (job .entry)))) ⌝ }
+// Writes the listing of the transmission of a job with its phrase book, which is empty where there is none, over the front of the slice.
+pub fn list_job<'a>(job: &'a [u8], book: &'a [u8], out: &mut [u8]) -> Listed
+    ensures { λ r. ⌜ r ≡ listedOf (withBook (now (job .entry)) (now (book .entry))) (length (now (out .entry))) ⌝ }
+    ensures { λ r. ⌜ now (out .exit) ≡ over (now (out .entry)) (bytesListed r (listingText (withBook (now (job .entry)) (now (book .entry))))) ⌝ }
 {
     let mut words = word_buffer();
     let mut slots = slot_buffer();
-    let report = transmission::send(job, &mut words, &mut slots);
+    let report = transmission::send(job, book, &mut words, &mut slots);
     match report {
         Report::Sent {
             batches: _,

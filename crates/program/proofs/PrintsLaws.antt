@@ -9,6 +9,7 @@ use lib.Seq.{length-take-le}
 use borrow.Author.Tests.{ne-eqb}
 use Rattle.io.specs.Counts.{Counts}
 use Rattle.base.specs.Lists.{over}
+use Rattle.job.specs.Submission.{Submission}
 use Rattle.job.specs.Refusal as refusal
 use Rattle.job.specs.declared.Refusal.{Refusal}
 use Rattle.job.proofs.RefusalLaws.{refused-not}
@@ -48,33 +49,23 @@ pub line-as : (old : List ℕ) (number place position : ℕ) {left out : List �
     → Printed left (refusalLine num pl pos) n out → Printed old (refusalLine number place position) n out
 line-as old number place position a b c e p = rw (a, b, c, e) at p
 
-module _ (s old : List ℕ) {n : ℕ} {out : List ℕ} where
+-- ---- the sending program
+
+module _ (s : Submission) (old : List ℕ) {n : ℕ} {out : List ℕ} where
   -- number 24
-  pub send-long : isLong s ≡ true → Printed old (refusalLine 24 0 0) n out → Printed old (sendPrints s) n out
+  pub send-long : isLong (s .job) ≡ true → Printed old (refusalLine 24 0 0) n out → Printed old (sendPrints s) n out
   unfolding sendPrints
   send-long h p = same old (refusalLine 24 0 0) (sendPrints s) out n (rw h) p
 
-  pub read-long : isLong s ≡ true → Printed old (refusalLine 24 0 0) n out → Printed old (readPrints s) n out
-  unfolding readPrints
-  read-long h p = same old (refusalLine 24 0 0) (readPrints s) out n (rw h) p
-
   -- the listing, or the line of its refusal
-  pub send-is : (l : Listed) → isLong s ≡ false → length old ≡ 46062 → l ≡ listedOf s (length old)
+  pub send-is : (l : Listed) → isLong (s .job) ≡ false → length old ≡ 46062 → l ≡ listedOf s (length old)
       → Printed old (answerText (listed.numberOf l) (listed.placeOf l) (listed.positionOf l) (listingText s)) n out → Printed old (sendPrints s) n out
   unfolding sendPrints
   send-is l h room e p =
       same old (answerText (listed.numberOf l) (listed.placeOf l) (listed.positionOf l) (listingText s)) (sendPrints s) out n (rw (h, e, room)) p
 
-  -- the lines, or the line of the listing's refusal
-  pub read-is : (r : Reading) → isLong s ≡ false → length old ≡ 48000 → r ≡ readListing s (length old)
-      → Printed old (answerText (numberOf r) (placeOf r) 0 (linesRead r (wordsOf s))) n out → Printed old (readPrints s) n out
-  unfolding readPrints
-  read-is r h room e p =
-      same old (answerText (numberOf r) (placeOf r) 0 (linesRead r (wordsOf s))) (readPrints s) out n (rw (h, e, room)) p
-
--- ---- the cases of an answer
-
-module _ (s old : List ℕ) (h : isLong s ≡ false) {out : List ℕ} where
+-- the cases of the answer
+module _ (s : Submission) (old : List ℕ) (h : isLong (s .job) ≡ false) {out : List ℕ} where
   pub send-written : (n : ℕ) → length old ≡ 46062 → Written n ≡ listedOf s (length old) → out ≡ over old (listingText s) → Printed old (sendPrints s) n out
   send-written n room e o = send-is s old (Written n) h room e (sym (listed-written s (length old) n (sym e) .2), o)
 
@@ -88,6 +79,23 @@ module _ (s old : List ℕ) (h : isLong s ≡ false) {out : List ℕ} where
   pub send-full : (n : ℕ) → length old ≡ 46062 → NoRoom ≡ listedOf s (length old) → Printed old (refusalLine 10 0 0) n out → Printed old (sendPrints s) n out
   send-full n room e p = send-is s old NoRoom h room e p
 
+-- ---- the reading programs
+
+module _ (s old : List ℕ) {n : ℕ} {out : List ℕ} where
+  -- number 24
+  pub read-long : isLong s ≡ true → Printed old (refusalLine 24 0 0) n out → Printed old (readPrints s) n out
+  unfolding readPrints
+  read-long h p = same old (refusalLine 24 0 0) (readPrints s) out n (rw h) p
+
+  -- the lines, or the line of the listing's refusal
+  pub read-is : (r : Reading) → isLong s ≡ false → length old ≡ 48000 → r ≡ readListing s (length old)
+      → Printed old (answerText (numberOf r) (placeOf r) 0 (linesRead r (wordsOf s))) n out → Printed old (readPrints s) n out
+  unfolding readPrints
+  read-is r h room e p =
+      same old (answerText (numberOf r) (placeOf r) 0 (linesRead r (wordsOf s))) (readPrints s) out n (rw (h, e, room)) p
+
+-- the cases of the answer
+module _ (s old : List ℕ) (h : isLong s ≡ false) {out : List ℕ} where
   pub read-whole : (n pages lost orphans : ℕ) (changed : Changes) → length old ≡ 48000 → Read pages lost orphans changed n ≡ readListing s (length old)
       → out ≡ over old (linesHeard (heardIn (wordsOf s) .pages)) → Printed old (readPrints s) n out
   read-whole n pages lost orphans changed room e o = read-is s old (Read pages lost orphans changed n) h room e (bytes-read s (length old) e, o)

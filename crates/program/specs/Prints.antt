@@ -1,4 +1,5 @@
--- What the programs print for their standard input (document 01, "The two programs", and number 24 of its table; request R-1).
+-- What the programs print for their standard input, the sending one with its phrase book (document 01, "The two programs", and number 24 of
+-- its table; requests R-1 and R-6).
 use Prim.Native.Nat.{ℕ, suc, _^_}
 use mathlib.Core.Bool.{Bool, cond}
 use mathlib.Core.List.{List, [], _∷_, _++_}
@@ -6,6 +7,7 @@ use lib.ListN.{length}
 use lib.Dec.{eqb, ltb}
 use Rattle.io.specs.Digits.{digits}
 use Rattle.base.specs.Search.{least}
+use Rattle.job.specs.Submission.{Submission}
 use Rattle.job_listing.specs.Listed as listed
 use Rattle.job_listing.specs.Listed.{listingText, listedOf}
 use Rattle.listing.specs.Words.{wordsOf}
@@ -39,7 +41,7 @@ refusalLine n p c = refusedWord ++ (decimal n ++ (placeWord ++ (decimal p ++ (po
 abbrev pub answerText : ℕ → ℕ → ℕ → List ℕ → List ℕ
 answerText n p c text = cond (eqb n 0) text (refusalLine n p c)
 
--- an input of over 65,536 bytes: number 24
+-- a standard input of over 65,536 bytes: number 24
 abbrev pub isLong : List ℕ → Bool
 isLong input = ltb 65536 (length input)
 
@@ -48,9 +50,9 @@ abbrev pub unlessLong : List ℕ → List ℕ → List ℕ
 unlessLong input text = cond (isLong input) (refusalLine 24 0 0) text
 
 -- the sending program, which has room for 46,062 bytes: a job's listing
-unfoldable pub sendPrints : List ℕ → List ℕ
+unfoldable pub sendPrints : Submission → List ℕ
 sendPrints s =
-    unlessLong s (answerText (listed.numberOf (listedOf s 46062)) (listed.placeOf (listedOf s 46062)) (listed.positionOf (listedOf s 46062)) (listingText s))
+    unlessLong (s .job) (answerText (listed.numberOf (listedOf s 46062)) (listed.placeOf (listedOf s 46062)) (listed.positionOf (listedOf s 46062)) (listingText s))
 
 -- the reading programs, which have room for 48,000 bytes: a listing's page lines in slot order; its refusals have no position
 unfoldable pub readPrints : List ℕ → List ℕ

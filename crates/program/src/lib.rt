@@ -1,30 +1,31 @@
-// What the programs do: standard input in, and the bytes out that are printed (document 01, "The two programs"). Each program is one call of
-// `send` or `read`, and the few lines around it that read and write.
+// What the programs do: standard input in, with a phrase book where one is sent, and the bytes out that are printed (document 01, "The two
+// programs", and request R-6). Each program is one call of `send` or `read`, and the few lines around it that read and write.
 ghost use mathlib.Core.Path.{_≡_};
 ghost use mathlib.Core.List.{_++_};
 ghost use Prim.Native.Nat.{_+_, _≤_};
 ghost use lib.ListN.{length, take, drop};
 ghost use Rattle.io.specs.Counts.{Counts};
 ghost use Rattle.base.specs.Lists.{over};
+ghost use Rattle.job.specs.Submission.{withBook};
 ghost use Rattle.program.specs.Prints.{isLong, decimal, positionPart, refusalLine, sendPrints, readPrints};
 use codeword::Engine;
 use job_listing::Listed;
 use libc::STDIN_FILENO;
 use reader::Reading;
 
-// What was read of standard input: how many bytes, and whether a read failed.
+// What was read of standard input or of a file: how many bytes, and whether it can't be read.
 pub struct Input {
     pub bytes: usize,
     pub failed: bool,
 }
 
-// Reads standard input up to its end, or until the slice is full or a read fails. Of the bytes themselves no contract can speak.
-fn read_into(input: &mut [u8]) -> Input
+// Reads a descriptor up to its end, or until the slice is full or a read fails. Of the bytes themselves no contract can speak.
+fn read_into(fd: i32, input: &mut [u8]) -> Input
     ensures { λ r. ⌜ Counts (r .bytes) (now (input .exit)) ⌝ }
 {
     let mut n = 0;
     while n < input.len() {
-        let got = libc::read(STDIN_FILENO, &mut input[n..]);
+        let got = libc::read(fd, &mut input[n..]);
         if got < 0 {
             return Input {
                 bytes: n,
@@ -47,7 +48,24 @@ fn read_into(input: &mut [u8]) -> Input
 pub fn read_input(input: &mut [u8; 65537]) -> Input
     ensures { λ r. ⌜ Counts (r .bytes) (now (input .exit)) ⌝ }
 {
-    read_into(input)
+    read_into(STDIN_FILENO, input)
+}
+
+// Reads the phrase book of a file, and of a long one only the first 65,536 bytes: what stands behind the first 48,101 changes nothing
+// (specs/BookFront.antt).
+pub fn read_book(path: &[u8], book: &mut [u8; 65536]) -> Input
+    ensures { λ r. ⌜ Counts (r .bytes) (now (book .exit)) ⌝ }
+{
+    let fd = os::open_read(path);
+    if fd < 0 {
+        return Input {
+            bytes: 0,
+            failed: true,
+        };
+    }
+    let read = read_into(fd, book);
+    libc::close(fd);
+    read
 }
 
 // Whether an input is over 65,536 bytes: number 24.
@@ -105,16 +123,17 @@ fn write_refusal(number: u32, place: usize, position: usize, out: &mut [u8]) -> 
     append(out, n, b"\n")
 }
 
-// What the sending program prints for its standard input, over the front of the bytes; answers how many they are.
-pub fn send(input: &[u8], out: &mut [u8; 46062]) -> usize
-    ensures { λ r. ⌜ r ≡ length (sendPrints (now (input .entry))) ⌝ }
-    ensures { λ _. ⌜ now (out .exit) ≡ over (now (out .entry)) (sendPrints (now (input .entry))) ⌝ }
+// What the sending program prints for its standard input, a job, with its phrase book, which is empty where there is none, over the front of
+// the bytes; answers how many they are.
+pub fn send<'a>(input: &'a [u8], book: &'a [u8], out: &mut [u8; 46062]) -> usize
+    ensures { λ r. ⌜ r ≡ length (sendPrints (withBook (now (input .entry)) (now (book .entry)))) ⌝ }
+    ensures { λ _. ⌜ now (out .exit) ≡ over (now (out .entry)) (sendPrints (withBook (now (input .entry)) (now (book .entry)))) ⌝ }
     ensures { λ r. ⌜ Counts r (now (out .exit)) ⌝ }
 {
     if is_long(input) {
         return write_refusal(24, 0, 0, out);
     }
-    let answer = job_listing::list_job(input, out);
+    let answer = job_listing::list_job(input, book, out);
     let number = job_listing::number(answer);
     let place = job_listing::place(answer);
     let position = job_listing::position(answer);

@@ -5,6 +5,7 @@ use mathlib.Core.List.{List}
 use lib.ListN.{replicate}
 use Rattle.base.specs.Lists.{over}
 use Rattle.base.proofs.ListLaws.{over-zeros}
+use Rattle.job.specs.Submission.{Submission}
 use Rattle.job.specs.Job.{jobOf}
 use Rattle.job.specs.declared.Refusal.{Refusal}
 use Rattle.job.specs.declared.JobAnswer.{JobAnswer}
@@ -19,7 +20,7 @@ use Rattle.sender.specs.Start.{wordsOf, pagesFrom, cursorAt, startOf, no
 abbrev opening : JobAnswer → Cursor → PageTable → Opening
 opening a c p = record { answer = a; cursor = c; pages = p; sent = replicate 48 0 }
 
-module _ (s : List ℕ) where
+module _ (s : Submission) where
   abbrev xs : List Sending
   xs = sendingsOf s
 

@@ -11,6 +11,7 @@ use Rattle.base.specs.Search.{least}
 use Rattle.base.specs.Lists.{tab, padded}
 use Rattle.base.proofs.ListLaws.{map-tab, tab-at}
 use Rattle.base.proofs.SearchLaws.{le-or-lt}
+use Rattle.job.specs.Submission.{Submission}
 use Rattle.job.specs.Job.{jobOf}
 use Rattle.job.specs.declared.JobAnswer.{JobAnswer}
 use Rattle.job.specs.declared.JobAnswer.the-variants.{Accepted}
@@ -59,7 +60,7 @@ some-list s (suc n) =
     (z .answer ∷ r .0, r .1, more s (z .state) (r .1) (z .answer) (r .0) (byValue z refl) (r .2), ap suc (r .3))
 
 -- a start answers the job, and where it accepts it, gives the state of its sendings
-pub start-is : (s : List ℕ) (a : JobAnswer) (t : Sender) → StartCall s a t → (a ≡ jobOf s) × ((n : ℕ) → jobOf s ≡ Accepted n → t ≡ startOf (sendingsOf s))
+pub start-is : (s : Submission) (a : JobAnswer) (t : Sender) → StartCall s a t → (a ≡ jobOf s) × ((n : ℕ) → jobOf s ≡ Accepted n → t ≡ startOf (sendingsOf s))
 unfolding startedOf
 start-is s a t (byValue r e) =
     (ap (λ (x : Started). x .answer) e, λ n ok. ap (λ (x : Started). x .state) e ∙ ap (λ (x : JobAnswer). stateBy x (sendingsOf s)) ok)

@@ -3,6 +3,7 @@ use Prim.Native.Nat.{ℕ}
 use mathlib.Core.List.{List, [], _∷_, _++_, map}
 use lib.ListN.{length, take, replicate}
 use Rattle.base.specs.Lists.{tab, padded}
+use Rattle.job.specs.Submission.{Submission}
 use Rattle.job.specs.Job.{jobOf}
 use Rattle.job.specs.declared.JobAnswer.{JobAnswer}
 use Rattle.job.specs.declared.JobAnswer.the-variants as job-answer
@@ -69,7 +70,7 @@ stateBy (job-answer.Accepted n) xs = startOf xs
 stateBy (job-answer.Refused why place) xs = noState
 
 -- what starting a job answers: what reading it answers, and the state
-unfoldable pub startedOf : List ℕ → Started
+unfoldable pub startedOf : Submission → Started
 startedOf s = record { answer = jobOf s; state = stateBy (jobOf s) (sendingsOf s) }
 
 -- the same without the message words

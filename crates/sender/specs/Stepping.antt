@@ -3,6 +3,7 @@ use Prim.Native.Nat.{ℕ, _≤_, _<_}
 use mathlib.Core.Path.{_≡_}
 use mathlib.Core.List.{List, [], _∷_, _++_, map}
 use lib.ListN.{length, getD, take, replicate}
+use Rattle.job.specs.Submission.{Submission}
 use Rattle.job.specs.Job.{jobOf}
 use Rattle.job.specs.declared.Refusal.{Refusal}
 use Rattle.job.specs.declared.JobAnswer.{JobAnswer}
@@ -21,9 +22,9 @@ use Rattle.sender.specs.Start.{openingOf, wordsBy, startedOf}
 
 -- ---- the calls, each by its promise
 
--- a start with the job s that answers a and gives the state t: `start` returns both; `start_with` returns all but the message words, which
--- it leaves where the caller keeps them
-pub data StartCall (s : List ℕ) : JobAnswer → Sender → Type 0 where
+-- a start with the job and book s that answers a and gives the state t: `start` returns both; `start_with` returns all but the message
+-- words, which it leaves where the caller keeps them
+pub data StartCall (s : Submission) : JobAnswer → Sender → Type 0 where
   byValue : (r : Started) → r ≡ startedOf s → StartCall s (r .answer) (r .state)
   inPlace : (r : Opening) (old new : List ℕ) → r ≡ openingOf (startedOf s) → new ≡ wordsBy (jobOf s) (startedOf s .state .words) old
       → StartCall s (r .answer) (stateFrom (r .pages) (r .sent) (r .cursor) new)
@@ -53,10 +54,10 @@ pub record Stepping (words : List ℕ) (s : Sender) : Type 0 where
 
 -- of every start that accepts its job
 abbrev pub JobStepping : Type 0
-JobStepping = (s : List ℕ) (n : ℕ) (t : Sender) → StartCall s (job-answer.Accepted n) t → Stepping (transmissionOf (sendingsOf s)) t
+JobStepping = (s : Submission) (n : ℕ) (t : Sender) → StartCall s (job-answer.Accepted n) t → Stepping (transmissionOf (sendingsOf s)) t
 
 -- of every refused job: each step from its state answers done and alters nothing
 abbrev pub NoStepping : Type 0
 NoStepping =
-    (s : List ℕ) (why : Refusal) (place : ℕ) → jobOf s ≡ job-answer.Refused why place
+    (s : Submission) (why : Refusal) (place : ℕ) → jobOf s ≡ job-answer.Refused why place
     → stepOf (startedOf s .state) ≡ record { answer = Done; state = startedOf s .state }

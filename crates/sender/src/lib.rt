@@ -9,6 +9,7 @@ ghost use Rattle.base.specs.Lists.{over, tab};
 ghost use Rattle.base.specs.Search.{least};
 ghost use Rattle.codeword.specs.Code.{codeword, messageBits};
 ghost use Rattle.job.specs.Message.{groupFrom};
+ghost use Rattle.job.specs.Submission.{withBook};
 ghost use Rattle.job.specs.Job.{jobOf, readingOf};
 ghost use Rattle.placement.specs.Placement.{mayStart};
 ghost use Rattle.transmission.specs.Sending.{sendingsOf};
@@ -496,11 +497,17 @@ fn write_message(kind: u32, text: &[u8], n: u16, out: &mut [u32])
 }
 
 // The table of an accepted job's n pages; their message codewords go over the front of a slice.
-fn lay_out(job: &[u8], read: job::Pages, n: usize, words: &mut [u32]) -> PageTable
-    requires { ⌜ (read ≡ readingOf (now job)) × (jobOf (now job) ≡ JobAnswer.Accepted n) ⌝ }
+fn lay_out<'a>(
+    job: &'a [u8],
+    book: &'a [u8],
+    read: job::Pages,
+    n: usize,
+    words: &mut [u32],
+) -> PageTable
+    requires { ⌜ (read ≡ readingOf (withBook (now job) (now book))) × (jobOf (withBook (now job) (now book)) ≡ JobAnswer.Accepted n) ⌝ }
     requires { ⌜ length (now words) ≡ 4032 ⌝ }
-    ensures { λ r. ⌜ r ≡ pagesFrom (sendingsOf (now (job .entry))) ⌝ }
-    ensures { λ r. ⌜ now (words .exit) ≡ over (now (words .entry)) (wordsOf (sendingsOf (now (job .entry)))) ⌝ }
+    ensures { λ r. ⌜ r ≡ pagesFrom (sendingsOf (withBook (now (job .entry)) (now (book .entry)))) ⌝ }
+    ensures { λ r. ⌜ now (words .exit) ≡ over (now (words .entry)) (wordsOf (sendingsOf (withBook (now (job .entry)) (now (book .entry))))) ⌝ }
 {
     let mut addresses = [0u32; 48];
     let mut starts = [0u16; 48];
@@ -517,7 +524,7 @@ fn lay_out(job: &[u8], read: job::Pages, n: usize, words: &mut [u32]) -> PageTab
         starts[i] = at as u16;
         lengths[i] = groups as u16;
         frames[i] = (identity % 8) as u8;
-        let text = job::page_text(job, page);
+        let text = job::page_text(job, book, page);
         write_message(kind, text, groups as u16, &mut words[at..]);
         at += groups;
         i += 1;
@@ -560,19 +567,19 @@ fn cursor_at(preamble: u8) -> Cursor
     }
 }
 
-// The answer to a job, and the state from which the steps give its words: the message words where the caller keeps them, and the
-// rest returned. A refused job leaves the message words as they were.
-pub fn start_with(job: &[u8], words: &mut [u32; 4032]) -> Opening
-    ensures { λ r. ⌜ r ≡ openingOf (startedOf (now (job .entry))) ⌝ }
-    ensures { λ r. ⌜ now (words .exit) ≡ wordsBy (jobOf (now (job .entry))) (startedOf (now (job .entry)) .state .words) (now (words .entry)) ⌝ }
+// The answer to a job with its phrase book, which is empty where there is none, and the state from which the steps give its words: the
+// message words where the caller keeps them, and the rest returned. A refused job leaves the message words as they were.
+pub fn start_with<'a>(job: &'a [u8], book: &'a [u8], words: &mut [u32; 4032]) -> Opening
+    ensures { λ r. ⌜ r ≡ openingOf (startedOf (withBook (now (job .entry)) (now (book .entry)))) ⌝ }
+    ensures { λ r. ⌜ now (words .exit) ≡ wordsBy (jobOf (withBook (now (job .entry)) (now (book .entry)))) (startedOf (withBook (now (job .entry)) (now (book .entry))) .state .words) (now (words .entry)) ⌝ }
 {
-    let read = job::read_job(job);
+    let read = job::read_job(job, book);
     let answer = read.answer;
     let unsent = [0u8; 48];
     match answer {
         JobAnswer::Accepted(n) => {
             *words = [0u32; 4032];
-            let pages = lay_out(job, read, n, words);
+            let pages = lay_out(job, book, read, n, words);
             Opening {
                 answer: answer,
                 cursor: cursor_at(18),
@@ -589,12 +596,12 @@ pub fn start_with(job: &[u8], words: &mut [u32; 4032]) -> Opening
     }
 }
 
-// The answer to a job, and the state from which the steps give its words.
-pub fn start(job: &[u8]) -> Started
-    ensures { λ r. ⌜ r ≡ startedOf (now (job .entry)) ⌝ }
+// The answer to a job with its phrase book, which is empty where there is none, and the state from which the steps give its words.
+pub fn start<'a>(job: &'a [u8], book: &'a [u8]) -> Started
+    ensures { λ r. ⌜ r ≡ startedOf (withBook (now (job .entry)) (now (book .entry))) ⌝ }
 {
     let mut words = [0u32; 4032];
-    let opening = start_with(job, &mut words);
+    let opening = start_with(job, book, &mut words);
     let cursor = opening.cursor;
     let pages = opening.pages;
     let sent = opening.sent;

@@ -7,6 +7,7 @@ use native.Mathlib.Omega.{arith}
 use lib.ListN.{length, getD, length-map}
 use Rattle.job.specs.Message.{countFrom}
 use Rattle.job.specs.Pages.{noPage, pageAt, digitsAt}
+use Rattle.job.specs.Submission.{Submission}
 use Rattle.job.specs.Job.{jobOf, readingOf}
 use Rattle.job.specs.declared.JobAnswer.the-variants.{Accepted}
 use Rattle.job.specs.declared.Pages.{Pages}
@@ -20,7 +21,7 @@ use Rattle.transmission.proofs.Sendings.{sending-at, frame-at, words-at
 
 -- ---- page i as it was read
 
-module _ (s : List ℕ) (n : ℕ) (ok : jobOf s ≡ Accepted n) {read : Pages} (e : read ≡ readingOf s) (i : ℕ) (h : i < n) where
+module _ (s : Submission) (n : ℕ) (ok : jobOf s ≡ Accepted n) {read : Pages} (e : read ≡ readingOf s) (i : ℕ) (h : i < n) where
   -- its sending
   pub page-sending : sendingOf s (getD (read .pages) i noPage) ≡ sendingAt (sendingsOf s) i
   page-sending = rw (e, accepted-job s n ok .page i h .read) (sym (sending-at s i))
@@ -45,7 +46,7 @@ module _ (s : List ℕ) (n : ℕ) (ok : jobOf s ≡ Accepted n) {read : Pages} (
 
 -- ---- page i by the plan
 
-module _ (s : List ℕ) (n : ℕ) (ok : jobOf s ≡ Accepted n) {groups places : List ℕ} {room : ℕ} (plan : Planned (sendingsOf s) groups places room) (i : ℕ) (h : i < n) where
+module _ (s : Submission) (n : ℕ) (ok : jobOf s ≡ Accepted n) {groups places : List ℕ} {room : ℕ} (plan : Planned (sendingsOf s) groups places room) (i : ℕ) (h : i < n) where
   listed : i < length (sendingsOf s)
   listed = omega (arith, sendings-count s n ok)
 

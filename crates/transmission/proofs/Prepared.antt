@@ -9,6 +9,7 @@ use lib.Seq.{take-at}
 use borrow.Author.Tests.{lt-ltb, le-ltb}
 use Rattle.base.specs.Lists.{over}
 use Rattle.base.proofs.ListLaws.{over-length}
+use Rattle.job.specs.Submission.{Submission}
 use Rattle.job.specs.Job.{jobOf}
 use Rattle.job.specs.declared.JobAnswer.the-variants.{Accepted}
 use Rattle.job.proofs.Accepted.{accepted-job}
@@ -25,7 +26,7 @@ use Rattle.transmission.proofs.Sendings.{pages-are, sendings-count, sen
 use Rattle.transmission.proofs.TransmissionLaws.{transmission-length}
 
 -- what is known when the pages are placed, before a slice is tested: each page's number of groups and slot, and the number of batches
-pub record Prepared (s : List ℕ) (n : ℕ) (groups places : List ℕ) (b : ℕ) : Type 0 where
+pub record Prepared (s : Submission) (n : ℕ) (groups places : List ℕ) (b : ℕ) : Type 0 where
   pub accepted : jobOf s ≡ Accepted n
   pub total : b ≡ batches (placementOf (sendingsOf s))
   pub counted : groups ≡ countsOf (sendingsOf s)
@@ -35,7 +36,7 @@ pub record Prepared (s : List ℕ) (n : ℕ) (groups places : List ℕ) (b : ℕ
 
 -- ---- the sendings' frames and counts can be sent, and there is room for them: placing them answers their batches and writes their slots
 
-module _ (s : List ℕ) (n : ℕ) (ok : jobOf s ≡ Accepted n) {frames groups : List ℕ} (f : frames ≡ framesOf (sendingsOf s)) (g : groups ≡ countsOf (sendingsOf s)) where
+module _ (s : Submission) (n : ℕ) (ok : jobOf s ≡ Accepted n) {frames groups : List ℕ} (f : frames ≡ framesOf (sendingsOf s)) (g : groups ≡ countsOf (sendingsOf s)) where
   all-sendable : isSendable frames groups ≡ true
   all-sendable = rw (f, g) (of-sendable (sendable (accepted-sendings s n ok)))
 
@@ -61,7 +62,7 @@ module _ (s : List ℕ) (n : ℕ) (ok : jobOf s ≡ Accepted n) {frames groups :
 
 -- ---- what is reported, and what is written
 
-module _ {s : List ℕ} {n : ℕ} {groups places : List ℕ} {b : ℕ} (r : Prepared s n groups places b) where
+module _ {s : Submission} {n : ℕ} {groups places : List ℕ} {b : ℕ} (r : Prepared s n groups places b) where
   pub few-batches : b ≤ 300
   few-batches = rw (r .total) (sendings-limits (accepted-sendings s n (r .accepted)) .most)
 

@@ -2,6 +2,7 @@
 use Prim.Native.Nat.{ℕ}
 use mathlib.Core.Path.{_≡_, refl, sym, ap, _∙_}
 use mathlib.Core.List.{List}
+use Rattle.job.specs.Submission.{Submission}
 use Rattle.job.specs.Job.{jobOf, readingOf}
 use Rattle.job.specs.declared.Refusal.{Refusal}
 use Rattle.job.specs.declared.JobAnswer.{JobAnswer}
@@ -13,10 +14,10 @@ use Rattle.transmission.specs.Report.{sentInto, reportOf, numberOf, Noth
 use Rattle.transmission.specs.declared.Report.{Report}
 use Rattle.transmission.specs.declared.Report.the-variants.{Sent, Declined, NoRoom}
 
-pub read-answer : (s : List ℕ) {pages : Pages} {a : JobAnswer} → pages ≡ readingOf s → pages .answer ≡ a → jobOf s ≡ a
+pub read-answer : (s : Submission) {pages : Pages} {a : JobAnswer} → pages ≡ readingOf s → pages .answer ≡ a → jobOf s ≡ a
 read-answer s e q = sym (answered s) ∙ ap (λ (p : Pages). p .answer) (sym e) ∙ q
 
-module _ (s : List ℕ) (words slots : ℕ) where
+module _ (s : Submission) (words slots : ℕ) where
   pub report-declined : {why : Refusal} {place : ℕ} → jobOf s ≡ Refused why place → Declined why place ≡ reportOf s words slots
   unfolding reportOf
   report-declined e = rw e

@@ -10,6 +10,7 @@ use Rattle.base.specs.Lists.{tab}
 use Rattle.job.specs.Line.{isData, codingOf, functionOf}
 use Rattle.job.specs.Message.{countFrom, groupsFrom}
 use Rattle.job.specs.Pages.{pagesOf, noPage, pageAt, digitsAt}
+use Rattle.job.specs.Submission.{Submission}
 use Rattle.job.specs.Job.{jobOf}
 use Rattle.job.specs.declared.JobAnswer.the-variants.{Accepted}
 use Rattle.job.proofs.Accepted.{accepted-job}
@@ -21,12 +22,12 @@ use Rattle.transmission.specs.Sending.{Sending, noSending, sendingOf, se
 
 -- ---- the sendings of any job, by index
 
-sendings-length : (s : List ℕ) → length (sendingsOf s) ≡ length (pagesOf s)
+sendings-length : (s : Submission) → length (sendingsOf s) ≡ length (pagesOf s)
 unfolding sendingsOf
 sendings-length s = length-map (pagesOf s) (sendingOf s)
 
 -- the sending at an index is that of the page there
-pub sending-at : (s : List ℕ) (i : ℕ) → sendingAt (sendingsOf s) i ≡ sendingOf s (pageAt s i)
+pub sending-at : (s : Submission) (i : ℕ) → sendingAt (sendingsOf s) i ≡ sendingOf s (pageAt s i)
 unfolding sendingsOf functionOf groupsFrom countFrom isData codingOf tab
 sending-at s i = List·getD-map (sendingOf s) (pagesOf s) i noPage
 
@@ -74,7 +75,7 @@ sendings-limits a = limits (sendable a)
 
 -- ---- an accepted job's sendings are allowed
 
-module _ (s : List ℕ) (n : ℕ) (ok : jobOf s ≡ Accepted n) where
+module _ (s : Submission) (n : ℕ) (ok : jobOf s ≡ Accepted n) where
   pub sendings-count : length (sendingsOf s) ≡ n
   sendings-count = sendings-length s ∙ accepted-job s n ok .pages
 

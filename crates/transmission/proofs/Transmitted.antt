@@ -15,6 +15,7 @@ use Rattle.codeword.specs.Code as code
 use Rattle.codeword.specs.Code.{codeword, addressBits, messageBits}
 use Rattle.codeword.proofs.CodeLaws.{codeword-front}
 use Rattle.job.specs.Line.{isReserved}
+use Rattle.job.specs.Submission.{Submission}
 use Rattle.job.specs.Job.{jobOf}
 use Rattle.job.specs.declared.JobAnswer.the-variants.{Accepted}
 use Rattle.placement.specs.Placement.{Job, Framed, Content, isMessage, stateAt, contentAt, allOut, endsWith, batches, slotOf}
@@ -200,5 +201,5 @@ module _ (job : Job) (framed : Framed job) (c : Codewords) (coded : Coded job c)
 pub sendings-transmitted : {xs : List Sending} → AllAllowed xs → Transmitted (placementOf xs) (codewordsOf xs)
 sendings-transmitted {xs} a = words-transmitted (placementOf xs) (sendable a .framed) (codewordsOf xs) (coded a)
 
-pub transmitted : (s : List ℕ) (n : ℕ) → jobOf s ≡ Accepted n → Transmitted (placementOf (sendingsOf s)) (codewordsOf (sendingsOf s))
+pub transmitted : (s : Submission) (n : ℕ) → jobOf s ≡ Accepted n → Transmitted (placementOf (sendingsOf s)) (codewordsOf (sendingsOf s))
 transmitted s n ok = sendings-transmitted (accepted-sendings s n ok)

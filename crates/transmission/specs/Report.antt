@@ -5,6 +5,7 @@ use mathlib.Core.Bool.{cond, _||_}
 use mathlib.Core.List.{List, []}
 use lib.ListN.{length}
 use lib.Dec.{ltb}
+use Rattle.job.specs.Submission.{Submission}
 use Rattle.job.specs.Job.{jobOf}
 use Rattle.job.specs.Refusal as refusal
 use Rattle.job.specs.declared.JobAnswer.{JobAnswer}
@@ -27,7 +28,7 @@ answered (Refused why place) xs words slots = Declined why place
 answered (Accepted n) xs words slots = sentInto xs words slots
 
 -- the report of a job
-unfoldable pub reportOf : List ℕ → ℕ → ℕ → Report
+unfoldable pub reportOf : Submission → ℕ → ℕ → Report
 reportOf s words slots = answered (jobOf s) (sendingsOf s) words slots
 
 -- what is written over the front of the words, and of the slots: nothing where the job is declined

@@ -7,6 +7,7 @@ use mathlib.Core.List.{List, [], map}
 use lib.ListN.{length, getD}
 use Rattle.job.specs.Line.{isReserved, functionOf}
 use Rattle.job.specs.Message.{groupsFrom}
+use Rattle.job.specs.Submission.{Submission}
 use Rattle.job.specs.Pages.{pagesOf, digitsIn}
 use Rattle.job.specs.declared.Page.{Page}
 use Rattle.placement.specs.Placement as placement
@@ -23,11 +24,11 @@ abbrev pub sendingFrom : ℕ → ℕ → List ℕ → Sending
 sendingFrom identity kind digits = record { identity = identity; function = functionOf kind; groups = groupsFrom kind digits }
 
 -- a page of a job as it is sent
-abbrev pub sendingOf : List ℕ → Page → Sending
+abbrev pub sendingOf : Submission → Page → Sending
 sendingOf s p = sendingFrom (p .identity) (p .kind) (digitsIn s p)
 
 -- the sendings of a job, in job order
-unfoldable pub sendingsOf : List ℕ → List Sending
+unfoldable pub sendingsOf : Submission → List Sending
 sendingsOf s = map (sendingOf s) (pagesOf s)
 
 -- the sending at an index; an empty one where there is none

@@ -3,6 +3,7 @@ ghost use mathlib.Core.Path.{_≡_};
 ghost use Prim.Native.Nat.{_+_, _≤_, _<_};
 ghost use lib.ListN.{length};
 ghost use Rattle.base.specs.Lists.{over, tab};
+ghost use Rattle.job.specs.Submission.{withBook};
 ghost use Rattle.job.specs.Job.{jobOf, readingOf};
 ghost use Rattle.transmission.specs.Sending.{sendingFrom, sendingOf, sendingsOf};
 ghost use Rattle.transmission.specs.Transmission.{transmissionOf};
@@ -145,15 +146,22 @@ fn write_packed(
 }
 
 // A page's address codeword at its slot, and its message codewords directly behind.
-fn write_page(job: &[u8], page: Page, groups: u32, slot: u32, words: &mut [u32])
-    requires { ⌜ groups ≡ length (sendingOf (now job) page .groups) ⌝ }
+fn write_page<'a>(
+    job: &'a [u8],
+    book: &'a [u8],
+    page: Page,
+    groups: u32,
+    slot: u32,
+    words: &mut [u32],
+)
+    requires { ⌜ groups ≡ length (sendingOf (withBook (now job) (now book)) page .groups) ⌝ }
     requires { ⌜ (groups ≤ 84) × (slot < 4800) ⌝ }
     requires { ⌜ slotIndex (slot + groups) < length (now words) ⌝ }
-    ensures { λ _. ⌜ now (words .exit) ≡ withSending (sendingOf (now (job .entry)) page) slot (now (words .entry)) ⌝ }
+    ensures { λ _. ⌜ now (words .exit) ≡ withSending (sendingOf (withBook (now (job .entry)) (now (book .entry))) page) slot (now (words .entry)) ⌝ }
 {
     let n = groups as usize;
     let mut packed = [0u32; 84];
-    let text = job::page_text(job, page);
+    let text = job::page_text(job, book, page);
     write_packed(
         page.identity,
         page.kind,
@@ -165,23 +173,24 @@ fn write_page(job: &[u8], page: Page, groups: u32, slot: u32, words: &mut [u32])
 }
 
 // The transmission of a job's n pages over a slice of just its length, by each page's number of groups and its slot.
-fn write_pages(
-    job: &[u8],
+fn write_pages<'a>(
+    job: &'a [u8],
+    book: &'a [u8],
     read: Pages,
     n: usize,
     groups: &[u32],
     places: &[u32; 48],
     words: &mut [u32],
 )
-    requires { ⌜ read ≡ readingOf (now job) ⌝ }
-    requires { ⌜ jobOf (now job) ≡ JobAnswer.Accepted n ⌝ }
-    requires { ⌜ Planned (sendingsOf (now job)) (now groups) (now places) (length (now words)) ⌝ }
-    ensures { λ _. ⌜ now (words .exit) ≡ transmissionOf (sendingsOf (now (job .entry))) ⌝ }
+    requires { ⌜ read ≡ readingOf (withBook (now job) (now book)) ⌝ }
+    requires { ⌜ jobOf (withBook (now job) (now book)) ≡ JobAnswer.Accepted n ⌝ }
+    requires { ⌜ Planned (sendingsOf (withBook (now job) (now book))) (now groups) (now places) (length (now words)) ⌝ }
+    ensures { λ _. ⌜ now (words .exit) ≡ transmissionOf (sendingsOf (withBook (now (job .entry)) (now (book .entry)))) ⌝ }
 {
     write_blank(words);
     let mut i = 0;
     while i < n {
-        write_page(job, read.pages[i], groups[i], places[i], words);
+        write_page(job, book, read.pages[i], groups[i], places[i], words);
         i += 1;
     }
 }
@@ -201,12 +210,19 @@ fn copy_front(from: &[u32], to: &mut [u32])
 
 // The n pages of an accepted job into the two slices, or number 10. A page's frame is its identity's low three bits. Nothing is written
 // before both slices have room.
-fn send_pages(job: &[u8], read: Pages, n: usize, words: &mut [u32], slots: &mut [u32]) -> Report
-    requires { ⌜ read ≡ readingOf (now job) ⌝ }
-    requires { ⌜ jobOf (now job) ≡ JobAnswer.Accepted n ⌝ }
-    ensures { λ r. ⌜ r ≡ sentInto (sendingsOf (now (job .entry))) (length (now (words .entry))) (length (now (slots .entry))) ⌝ }
-    ensures { λ r. ⌜ now (words .exit) ≡ over (now (words .entry)) (wordsSent r (sendingsOf (now (job .entry)))) ⌝ }
-    ensures { λ r. ⌜ now (slots .exit) ≡ over (now (slots .entry)) (slotsSent r (sendingsOf (now (job .entry)))) ⌝ }
+fn send_pages<'a>(
+    job: &'a [u8],
+    book: &'a [u8],
+    read: Pages,
+    n: usize,
+    words: &mut [u32],
+    slots: &mut [u32],
+) -> Report
+    requires { ⌜ read ≡ readingOf (withBook (now job) (now book)) ⌝ }
+    requires { ⌜ jobOf (withBook (now job) (now book)) ≡ JobAnswer.Accepted n ⌝ }
+    ensures { λ r. ⌜ r ≡ sentInto (sendingsOf (withBook (now (job .entry)) (now (book .entry)))) (length (now (words .entry))) (length (now (slots .entry))) ⌝ }
+    ensures { λ r. ⌜ now (words .exit) ≡ over (now (words .entry)) (wordsSent r (sendingsOf (withBook (now (job .entry)) (now (book .entry))))) ⌝ }
+    ensures { λ r. ⌜ now (slots .exit) ≡ over (now (slots .entry)) (slotsSent r (sendingsOf (withBook (now (job .entry)) (now (book .entry))))) ⌝ }
 {
     let mut frames = [0u8; 48];
     let mut groups = [0u32; 48];
@@ -227,7 +243,15 @@ fn send_pages(job: &[u8], read: Pages, n: usize, words: &mut [u32], slots: &mut 
     if slots.len() < n {
         return Report::NoRoom;
     }
-    write_pages(job, read, n, &groups[..n], &places, &mut words[..room]);
+    write_pages(
+        job,
+        book,
+        read,
+        n,
+        &groups[..n],
+        &places,
+        &mut words[..room],
+    );
     copy_front(&places[..n], slots);
     Report::Sent {
         batches: batches,
@@ -235,20 +259,21 @@ fn send_pages(job: &[u8], read: Pages, n: usize, words: &mut [u32], slots: &mut 
     }
 }
 
-// Sends a job: writes its transmission over the front of the words and each page's address slot, in job order, over the front of
-// the slots, and reports the number of batches and of words. A declined job writes nothing.
-pub fn send(job: &[u8], words: &mut [u32], slots: &mut [u32]) -> Report
-    ensures { λ r. ⌜ r ≡ reportOf (now (job .entry)) (length (now (words .entry))) (length (now (slots .entry))) ⌝ }
-    ensures { λ r. ⌜ now (words .exit) ≡ over (now (words .entry)) (wordsSent r (sendingsOf (now (job .entry)))) ⌝ }
-    ensures { λ r. ⌜ now (slots .exit) ≡ over (now (slots .entry)) (slotsSent r (sendingsOf (now (job .entry)))) ⌝ }
+// Sends a job with its phrase book, which is empty where there is none: writes its transmission over the front of the words and each
+// page's address slot, in job order, over the front of the slots, and reports the number of batches and of words. A declined job writes
+// nothing.
+pub fn send<'a>(job: &'a [u8], book: &'a [u8], words: &mut [u32], slots: &mut [u32]) -> Report
+    ensures { λ r. ⌜ r ≡ reportOf (withBook (now (job .entry)) (now (book .entry))) (length (now (words .entry))) (length (now (slots .entry))) ⌝ }
+    ensures { λ r. ⌜ now (words .exit) ≡ over (now (words .entry)) (wordsSent r (sendingsOf (withBook (now (job .entry)) (now (book .entry))))) ⌝ }
+    ensures { λ r. ⌜ now (slots .exit) ≡ over (now (slots .entry)) (slotsSent r (sendingsOf (withBook (now (job .entry)) (now (book .entry))))) ⌝ }
 {
-    let read = job::read_job(job);
+    let read = job::read_job(job, book);
     let answer = read.answer;
     match answer {
         JobAnswer::Refused { why, place } => Report::Declined {
             why: why,
             place: place,
         },
-        JobAnswer::Accepted(n) => send_pages(job, read, n, words, slots),
+        JobAnswer::Accepted(n) => send_pages(job, book, read, n, words, slots),
     }
 }

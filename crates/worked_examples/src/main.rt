@@ -159,7 +159,30 @@ fn print_answer(answer: JobAnswer) {
     }
 }
 
-// `J 000009 0|`: what a job is answered.
+// Where the `/` of a question stands; at its end where there is none.
+fn slash(question: &[u8]) -> usize {
+    bytes::scan::find(question, 0, question.len(), b'/')
+}
+
+// The phrase book of a question, which a `/` ends; an empty one where there is no `/`.
+fn book_of(question: &[u8]) -> &[u8] {
+    let end = slash(question);
+    if end < question.len() {
+        return base::part(question, 0, end);
+    }
+    base::part(question, 0, 0)
+}
+
+// The job of a question: what stands behind its phrase book, or all of it.
+fn job_of(question: &[u8]) -> &[u8] {
+    let end = slash(question);
+    if end < question.len() {
+        return base::part(question, end + 1, question.len());
+    }
+    question
+}
+
+// `J 000009 0|`, or `J 41|4243|/000009 9 01|` with a phrase book: what a job is answered.
 fn job(line: &[u8]) {
     if line.len() < 2 {
         return;
@@ -169,12 +192,33 @@ fn job(line: &[u8]) {
     answer_front(&bytes, n);
 }
 
-// What the first n bytes of a slice are answered as a job.
+// What the first n bytes of a slice are answered as a job with its book.
 fn answer_front(bytes: &[u8], n: usize) {
-    if n <= bytes.len() {
-        let answer = job::read_job(&bytes[..n]).answer;
-        print_answer(answer);
+    let question = base::part(bytes, 0, n);
+    let answer = job::read_job(job_of(question), book_of(question)).answer;
+    print_answer(answer);
+}
+
+// `P 41|4243|/000009 9 01|`: the kind as which a job's first page is sent, and its text.
+fn page(line: &[u8]) {
+    if line.len() < 2 {
+        return;
     }
+    let mut bytes = io::buffer();
+    let n = newlines(&line[2..], &mut bytes);
+    page_front(&bytes, n);
+}
+
+// The same of the first n bytes of a slice.
+fn page_front(bytes: &[u8], n: usize) {
+    let question = base::part(bytes, 0, n);
+    let job = job_of(question);
+    let book = book_of(question);
+    let first = job::read_job(job, book).pages[0];
+    print(b" kind ");
+    print_number(first.kind as u64);
+    print(b" text ");
+    print(job::page_text(job, book, first));
 }
 
 fn word_buffer() -> [u32; 5118] {
@@ -197,14 +241,12 @@ fn print_numbers(numbers: &[u32], n: usize) {
     }
 }
 
-// What sending the first n bytes of a slice as a job of so many pages reports, and the slots that it writes.
+// What sending the first n bytes of a slice as a job of so many pages, with its book, reports, and the slots that it writes.
 fn send_front(bytes: &[u8], n: usize, pages: usize) {
-    if bytes.len() < n {
-        return;
-    }
+    let question = base::part(bytes, 0, n);
     let mut words = word_buffer();
     let mut slots = [0u32; 48];
-    let report = transmission::send(&bytes[..n], &mut words, &mut slots);
+    let report = transmission::send(job_of(question), book_of(question), &mut words, &mut slots);
     if let Report::Sent {
         batches,
         words: count,
@@ -221,7 +263,7 @@ fn send_front(bytes: &[u8], n: usize, pages: usize) {
     }
 }
 
-// `S 00000F 0|`: how a job is sent.
+// `S 00000F 0|`, or with a phrase book: how a job is sent.
 fn send(line: &[u8]) {
     if line.len() < 2 {
         return;
@@ -231,12 +273,10 @@ fn send(line: &[u8]) {
     send_front(&bytes, n, pages_of(&bytes, n));
 }
 
-// The number of pages of the job in the first n bytes of a slice.
+// The number of pages of the job, with its book, in the first n bytes of a slice.
 fn pages_of(bytes: &[u8], n: usize) -> usize {
-    if bytes.len() < n {
-        return 0;
-    }
-    let answer = job::read_job(&bytes[..n]).answer;
+    let question = base::part(bytes, 0, n);
+    let answer = job::read_job(job_of(question), book_of(question)).answer;
     match answer {
         JobAnswer::Accepted(pages) => pages,
         JobAnswer::Refused { why: _, place: _ } => 0,
@@ -359,6 +399,7 @@ fn run(line: &[u8]) {
         b'T' => groups(line),
         b'H' => heard(line),
         b'J' => job(line),
+        b'P' => page(line),
         b'S' => send(line),
         b'R' => read(Engine::Fast, line),
         b'r' => read(Engine::Slow, line),

@@ -3,6 +3,7 @@ use mathlib.Core.Path.{_≡_, sym, ap, _∙_}
 use mathlib.Core.List.{List}
 use Prim.Native.Nat.{ℕ}
 use denote.Ref.{now}
+use Rattle.job.specs.Submission.{Submission, withBook}
 use Rattle.job.specs.Job.{jobOf}
 use Rattle.job.specs.Refusal.{jobNumber, jobPlace, jobPosition}
 use Rattle.job.specs.declared.Refusal.{Refusal}
@@ -19,7 +20,7 @@ use Rattle.card.proofs.begin.Statement.{statement}
 use Rattle.card.proofs.begin.Tie as tie
 
 -- what is answered where the job opens as o and its message words are then `words`, over a state that was old
-module _ (s : List ℕ) (old : Sender) {o : Opening} {words : List ℕ} (e : o ≡ openingOf (startedOf s)) (w : words ≡ wordsBy (jobOf s) (startedOf s .state .words) (old .words)) where
+module _ (s : Submission) (old : Sender) {o : Opening} {words : List ℕ} (e : o ≡ openingOf (startedOf s)) (w : words ≡ wordsBy (jobOf s) (startedOf s .state .words) (old .words)) where
   refusal : {place position number : ℕ} → place ≡ jobPlace (o .answer) → position ≡ jobPosition (o .answer) → number ≡ jobNumber (o .answer)
       → _≡_ {A = CardRefusal} (record { place = place; position = position; number = number }) (refusalFor (startedOf s .answer))
   refusal p q n = (λ i. record { place = p i; position = q i; number = n i }) ∙ ap (λ (x : Opening). refusalFor (x .answer)) e
@@ -61,23 +62,25 @@ enum-told-2 c = search needs
 
 returns : tie.Need-returns
 returns c =
-    let a = c .before .before .before .before .before .before .before .before .before .before .before .args in
+    let a = c .before .before .before .before .before .before .before .before .before .before .before .before .args in
     let s = c .before .before .before .before .before .before .before .before .start-with in
     let told = c .before .before .before .enum-told .given in
+    let submitted = withBook (now (a .job)) (now (a .book)) in
     let old = stateFrom (a .table) (a .sent) (a .cursor) (now (a .words)) in (
-      refusal (now (a .job)) old (s .ensures .0) (s .ensures .1) (c .before .before .before .before .before .before .before .place .ensures) (c .before .before .before .before .before .before .position .ensures)
+      refusal submitted old (s .ensures .0) (s .ensures .1) (c .before .before .before .before .before .before .before .place .ensures) (c .before .before .before .before .before .before .position .ensures)
           (c .before .before .before .before .before .number .ensures),
-      accepts (now (a .job)) old (s .ensures .0) (s .ensures .1) (told .0 .0) (told .1),
+      accepts submitted old (s .ensures .0) (s .ensures .1) (told .0 .0) (told .1),
     )
 
 returns-2 : tie.Need-returns-2
 returns-2 c =
-    let a = c .before .before .before .before .before .before .before .before .args in
+    let a = c .before .before .before .before .before .before .before .before .before .args in
     let s = c .before .before .before .before .before .start-with in
     let told = c .enum-told2 .given in
+    let submitted = withBook (now (a .job)) (now (a .book)) in
     let old = stateFrom (a .table) (a .sent) (a .cursor) (now (a .words)) in (
-      refusal (now (a .job)) old (s .ensures .0) (s .ensures .1) (c .before .before .before .before .place .ensures) (c .before .before .before .position .ensures) (c .before .before .number .ensures),
-      declines (now (a .job)) old (s .ensures .0) (s .ensures .1) (told .0 .0) (told .0 .1 .0) (told .1),
+      refusal submitted old (s .ensures .0) (s .ensures .1) (c .before .before .before .before .place .ensures) (c .before .before .before .position .ensures) (c .before .before .number .ensures),
+      declines submitted old (s .ensures .0) (s .ensures .1) (told .0 .0) (told .0 .1 .0) (told .1),
     )
 
 pub begin-spec : {M : Type 1} → statement M

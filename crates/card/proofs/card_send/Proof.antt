@@ -1,6 +1,7 @@
 -- `card::card_send` meets its contract. Assumes nothing.
 use mathlib.Core.Path.{_∙_, ap}
 use Rattle.base.specs.Lists.{over}
+use Rattle.job.specs.Submission.{withBook}
 use Rattle.transmission.specs.Sending.{sendingsOf}
 use Rattle.transmission.specs.Report.{wordsSent, slotsSent}
 use Rattle.transmission.specs.declared.Report.{Report}
@@ -24,12 +25,12 @@ same-length-2 c = search needs
 returns : tie.Need-returns
 returns c =
     let v = c .before .before .before .before .before in
-    let a = v .before .before .before .before .before .before .args in
+    let a = v .before .before .before .before .before .before .before .args in
     let done = v .send .ensures in (
       c .report-numbers .ensures ∙ ap reportFor (done .0),
       (
-        done .1 .0 ∙ ap (λ (r : Report). over (a .words .now) (wordsSent r (sendingsOf (a .job .now)))) (done .0),
-        done .1 .1 ∙ ap (λ (r : Report). over (a .slots .now) (slotsSent r (sendingsOf (a .job .now)))) (done .0),
+        done .1 .0 ∙ ap (λ (r : Report). over (a .words .now) (wordsSent r (sendingsOf (withBook (a .job .now) (a .book .now))))) (done .0),
+        done .1 .1 ∙ ap (λ (r : Report). over (a .slots .now) (slotsSent r (sendingsOf (withBook (a .job .now) (a .book .now))))) (done .0),
       ),
     )
 

@@ -45,6 +45,7 @@ use denote.Triple.Clauses.{ensured, lasts}
 use denote.Triple.Table.{entered, cited}
 use denote.Triple.Walked.{says, Stays, stay-none-slice, stay-ref, walkOf, goes-none-slice, goes-ref, Walks, ends-at, walked, walk-meets}
 use denote.Exit.{yes}
+use Rattle.job.specs.Submission.{withBook}
 use Rattle.sender.specs.declared.Cursor.{Cursor}
 use Rattle.sender.specs.declared.PageTable.{PageTable}
 use Rattle.sender.specs.declared.Sender.{Sender}
@@ -75,7 +76,7 @@ use Rattle.card.proofs.card_start.Statement as stated
 use Rattle.card.proofs.card_start.Code as code
 
 abbrev stayed : Stays (f.ended .signature .params) (f.ended .kept)
-stayed = (stay-none-slice (0 ∷ []) tt (plain (λ _. u8)) yes, (stay-ref (1 ∷ []) tt (plain (λ _. T.the-row)), tt))
+stayed = (stay-none-slice (0 ∷ []) tt (plain (λ _. u8)) yes, (stay-none-slice (0 ∷ []) tt (plain (λ _. u8)) yes, (stay-ref (1 ∷ []) tt (plain (λ _. T.the-row)), tt)))
 
 abbrev Flags : RattleType
 Flags = Array u8 48
@@ -195,19 +196,25 @@ module _ {M : Type 1} (𝓤 : URA M) (H : Heap 𝓤) (A : Atoms 𝓤) (W : Given
 abbrev GC : {M : Type 1} (𝓤 : URA M) (H : Heap 𝓤) (A : Atoms 𝓤) (mem : Memory → SProp 𝓤) (run : Routine → Fun 𝓤) → Contract 𝓤
 GC 𝓤 H A mem run = tripleOf 𝓤 H A g.signature (g.spec 𝓤 H A mem run)
 
-module _ {M : Type 1} (𝓤 : URA M) (H : Heap 𝓤) (A : Atoms 𝓤) (W : Given 𝓤 H A) (at-mem : Memory → SProp 𝓤) (run : Routine → Fun 𝓤) (κ κ′ : Lft) (q q′ : Share) (bounds : AllOutlive 2 (f.signature .outlives) (κ, (κ′, tt))) (s : RefT (List ℕ)) (b o : ℕ) (γ : GName) (h : Sender) where
-  -- the machine value of the job's slice
+module _ {M : Type 1} (𝓤 : URA M) (H : Heap 𝓤) (A : Atoms 𝓤) (W : Given 𝓤 H A) (at-mem : Memory → SProp 𝓤) (run : Routine → Fun 𝓤) (κ κ′ : Lft) (q q′ : Share) (bounds : AllOutlive 2 (f.signature .outlives) (κ, (κ′, tt))) (s k : RefT (List ℕ)) (b o : ℕ) (γ : GName) (h : Sender) where
+  -- the machine values of the job's slice and of the book's
   abbrev vj : Val
   vj = sliceVal (s .ptr) (length (s .now))
 
-  abbrev x : RefT (List ℕ) × (RefT Sender × Unit {0})
-  x = (s, (record { ptr = (b, o); name = γ; now = h }, tt))
+  abbrev vk : Val
+  vk = sliceVal (k .ptr) (length (k .now))
 
-  abbrev at : List Val × (List Val × Unit {0})
-  at = (vj ∷ [], (vptr b o ∷ [], tt))
+  abbrev x : RefT (List ℕ) × (RefT (List ℕ) × (RefT Sender × Unit {0}))
+  x = (s, (k, (record { ptr = (b, o); name = γ; now = h }, tt)))
+
+  abbrev at : List Val × (List Val × (List Val × Unit {0}))
+  at = (vj ∷ [], (vk ∷ [], (vptr b o ∷ [], tt)))
 
   abbrev Job : Fml
   Job = ShrSlice (named 0) κ u8 .own s (vj ∷ [])
+
+  abbrev Book : Fml
+  Book = ShrSlice (named 0) κ u8 .own k (vk ∷ [])
 
   abbrev Post : Val → SProp 𝓤
   Post = walkOf 𝓤 H A f.ended stayed (f.clauses 𝓤 H A at-mem run) .post (((κ, (κ′, tt)), (q, (q′, tt)), bounds, x, at), tt)
@@ -218,15 +225,15 @@ module _ {M : Type 1} (𝓤 : URA M) (H : Heap 𝓤) (A : Atoms 𝓤) (W : Given
 
   -- what the contract says of the answer and of the last state
   abbrev Said : Begun → List ℕ → Type 0
-  Said r zs = (r .refusal ≡ refusalFor (startedOf (now s) .answer)) × (new r zs ≡ stateFor (startedOf (now s) .answer) (startedOf (now s) .state) h)
+  Said r zs = (r .refusal ≡ refusalFor (startedOf (withBook (now s) (now k)) .answer)) × (new r zs ≡ stateFor (startedOf (withBook (now s) (now k)) .answer) (startedOf (withBook (now s) (now k)) .state) h)
 
   exits : (r : Begun) (zs : List ℕ) → Is Rf.the-row (r .refusal) (machR (r .refusal)) → Said r zs
-      → ent 𝓤 (⋆ 𝓤 H A (‵ (flft κ q) ∷ ‵ (fobs γ (T.the-row .coded .code (new r zs))) ∷ ‵ (fbor κ′ (Body (mem T.the-row) b o γ)) ∷ ‵ (flft κ′ q′) ∷ ‵ ftrue ∷ ‵ Job ∷ [])) (Post (LL.val Rf.the-type Rf′.the-laws (r .refusal)))
+      → ent 𝓤 (⋆ 𝓤 H A (‵ (flft κ q) ∷ ‵ (fobs γ (T.the-row .coded .code (new r zs))) ∷ ‵ (fbor κ′ (Body (mem T.the-row) b o γ)) ∷ ‵ (flft κ′ q′) ∷ ‵ ftrue ∷ ‵ Job ∷ ‵ Book ∷ [])) (Post (LL.val Rf.the-type Rf′.the-laws (r .refusal)))
   exits r zs is e =
-      qed W (‵ (flft κ q) ∷ ‵ (fobs γ (T.the-row .coded .code (new r zs))) ∷ ‵ (fbor κ′ (Body (mem T.the-row) b o γ)) ∷ ‵ (flft κ′ q′) ∷ ‵ ftrue ∷ ‵ Job ∷ []) ∵
-      suffices ! _ (ends-at 𝓤 H A f.ended stayed (f.clauses 𝓤 H A at-mem run) W (((κ, (κ′, tt)), (q, (q′, tt)), bounds, x, at), tt) (LL.val Rf.the-type Rf′.the-laws (r .refusal)) (r .refusal) (tt, (new r zs, tt)) (tt, (tt, tt))) $ says ! e $
+      qed W (‵ (flft κ q) ∷ ‵ (fobs γ (T.the-row .coded .code (new r zs))) ∷ ‵ (fbor κ′ (Body (mem T.the-row) b o γ)) ∷ ‵ (flft κ′ q′) ∷ ‵ ftrue ∷ ‵ Job ∷ ‵ Book ∷ []) ∵
+      suffices ! _ (ends-at 𝓤 H A f.ended stayed (f.clauses 𝓤 H A at-mem run) W (((κ, (κ′, tt)), (q, (q′, tt)), bounds, x, at), tt) (LL.val Rf.the-type Rf′.the-laws (r .refusal)) (r .refusal) (tt, (tt, (new r zs, tt))) (tt, (tt, (tt, tt)))) $ says ! e $
       move ! (3 ∷ 4 ∷ []) $ join ! $ move ! (1 ∷ 0 ∷ []) $ join ! $ frame ! $
-      feqI ! (List Val) (vptr b o ∷ []) (vptr b o ∷ []) refl $ fjoin3 ! $ nothing ! $ move ! (1 ∷ 0 ∷ []) $ fjoin ! $ move ! (1 ∷ 0 ∷ []) $ fjoin ! $
+      feqI ! (List Val) (vptr b o ∷ []) (vptr b o ∷ []) refl $ fjoin3 ! $ nothing ! $ move ! (1 ∷ 0 ∷ []) $ fjoin ! $ move ! (2 ∷ 0 ∷ []) $ fjoin ! $ move ! (1 ∷ 0 ∷ []) $ fjoin ! $
       owned ! Rf.the-row (Is Rf.the-row) (LL.makes Rf.the-type Rf′.the-plain 𝓤 H A) (r .refusal) _ is $ move ! (1 ∷ 0 ∷ []) $ done !
 
   -- what `begin` is passed: the message words are lent for ν under the name δ
@@ -240,80 +247,81 @@ module _ {M : Type 1} (𝓤 : URA M) (H : Heap 𝓤) (A : Atoms 𝓤) (W : Given
   Ref ν δ = MutRef (named 1) (ν ∷ []) Words .own (y δ) (vw ∷ [])
 
   abbrev to-begin : ℕ → GName → GC 𝓤 H A at-mem run .Ghost
-  to-begin ν δ = (((κ, (ν ∷ [], tt)), (q, (fullShare, tt)), tt, (s, (h .cursor, (h .pages, (h .sent, (y δ, tt))))), (vj ∷ [], (machC (h .cursor) ∷ [], (machP (h .pages) ∷ [], (machF (h .sent) ∷ [], (vw ∷ [], tt)))))), tt)
+  to-begin ν δ = (((κ, (ν ∷ [], tt)), (q, (fullShare, tt)), tt, (s, (k, (h .cursor, (h .pages, (h .sent, (y δ, tt)))))), (vj ∷ [], (vk ∷ [], (machC (h .cursor) ∷ [], (machP (h .pages) ∷ [], (machF (h .sent) ∷ [], (vw ∷ [], tt))))))), tt)
 
   goes-begin : Is T.the-row h (machS h) → (ν : ℕ) (δ : GName)
-      → ent 𝓤 (sep 𝓤 (sep 𝓤 (A .lft κ q) (A .lft (ν ∷ []) fullShare)) (sep 𝓤 (sem 𝓤 H A Job) (sem 𝓤 H A (Ref ν δ)))) (GC 𝓤 H A at-mem run .pre (to-begin ν δ))
+      → ent 𝓤 (sep 𝓤 (sep 𝓤 (A .lft κ q) (A .lft (ν ∷ []) fullShare)) (sep 𝓤 (sem 𝓤 H A Job) (sep 𝓤 (sem 𝓤 H A Book) (sem 𝓤 H A (Ref ν δ))))) (GC 𝓤 H A at-mem run .pre (to-begin ν δ))
   goes-begin was ν δ =
-      qed W ((‵ (flft κ q) ⊛ ‵ (flft (ν ∷ []) fullShare)) ∷ (‵ Job ⊛ ‵ (Ref ν δ)) ∷ []) ∵ split ! $ move ! (2 ∷ []) $ split ! $
-      -- [the job; the words; the two tokens]
-      nothing ! $ move ! (4 ∷ 0 ∷ []) $ join ! $ move ! (3 ∷ 0 ∷ []) $ join ! $
-      nothing ! $ move ! (3 ∷ 0 ∷ []) $ fjoin ! $
+      qed W ((‵ (flft κ q) ⊛ ‵ (flft (ν ∷ []) fullShare)) ∷ (‵ Job ⊛ ‵ Book ⊛ ‵ (Ref ν δ)) ∷ []) ∵ split ! $ move ! (2 ∷ []) $ split ! $ move ! (1 ∷ []) $ split ! $ move ! (2 ∷ []) $
+      -- [the job; the book; the words; the two tokens]
+      nothing ! $ move ! (5 ∷ 0 ∷ []) $ join ! $ move ! (4 ∷ 0 ∷ []) $ join ! $
+      nothing ! $ move ! (4 ∷ 0 ∷ []) $ fjoin ! $
       owned ! Flags (Is Flags) (array-makes 𝓤 H A W u8 (uint-makes 𝓤 H A W w8) 48) (h .sent) _ (is-sent h was) $ fjoin ! $
       owned ! Pg.the-row (Is Pg.the-row) (LL.makes Pg.the-type Pg′.the-plain 𝓤 H A) (h .pages) _ (is-pages h was) $ fjoin ! $
       owned ! Cu.the-row (Is Cu.the-row) (LL.makes Cu.the-type Cu′.the-plain 𝓤 H A) (h .cursor) _ (is-cursor h was) $ fjoin ! $
-      move ! (2 ∷ 0 ∷ []) $ fjoin ! $ move ! (1 ∷ 0 ∷ []) $ join ! $ nothing ! $ move ! (1 ∷ 0 ∷ []) $ done !
+      move ! (3 ∷ 0 ∷ []) $ fjoin ! $ move ! (2 ∷ 0 ∷ []) $ fjoin ! $ move ! (1 ∷ 0 ∷ []) $ join ! $ nothing ! $ move ! (1 ∷ 0 ∷ []) $ done !
 
   -- the last values of what `begin` is passed: of the message words alone
   abbrev Last : Type 0
-  Last = Unit {0} × (Unit {0} × (Unit {0} × (Unit {0} × (List ℕ × Unit {0}))))
+  Last = Unit {0} × (Unit {0} × (Unit {0} × (Unit {0} × (Unit {0} × (List ℕ × Unit {0})))))
 
   module _ (C : Calls 𝓤 H) (Λ : Loops 𝓤 H) (fm : FmC 𝓤 H (W .laws) C) (known : Triple 𝓤 (C #card·begin) (GC 𝓤 H A at-mem run)) where
-    walk : Is (ShrSlice (named 0) κ u8) s (vj ∷ []) → ent 𝓤 (onEntry 𝓤 H A f.signature (κ, (κ′, tt)) (q, (q′, tt)) x at) (WpFn 𝓤 H C Λ code.function (vj ∷ vptr b o ∷ []) Post)
-    walk p =
-        qed W ((‵ (flft κ q) ⊛ ‵ (flft κ′ q′) ⊛ ‵ ftrue) ∷ ‵ (owns (ShrSlice (named 0) κ u8 ∷ MutRef (named 1) κ′ T.the-row ∷ []) x at) ∷ []) ∵ enter ! C Λ code.function (vj ∷ vptr b o ∷ []) _ $
-        alloc1 ! (λ l₀. alloc1 ! (λ l₁. alloc1 ! (λ l₂. alloc1 ! (λ l₃. alloc1 ! (λ l₄. alloc1 ! (λ l₅. alloc1 ! (λ l₆. alloc1 ! (λ l₇. alloc0 ! $ params1 ! $ pass1 ! (init ! 12 refl (shr-slice-lawful 𝓤 H A W (named 0) κ u8 .typed s (vj ∷ []) p .0)) $ pass1 ! (init ! 10 refl (tt, tt)) $ pass0 ! $
-        move ! (17 ∷ []) $ fsplit ! $ move ! (1 ∷ []) $ fsplit ! $ fsplit3 ! $ drop ! $ move ! (20 ∷ []) $ split ! $ move ! (1 ∷ []) $ split ! $ move ! (3 ∷ 4 ∷ 0 ∷ []) $
+    walk : Is (ShrSlice (named 0) κ u8) s (vj ∷ []) → Is (ShrSlice (named 0) κ u8) k (vk ∷ []) → ent 𝓤 (onEntry 𝓤 H A f.signature (κ, (κ′, tt)) (q, (q′, tt)) x at) (WpFn 𝓤 H C Λ code.function (vj ∷ vk ∷ vptr b o ∷ []) Post)
+    walk p p′ =
+        qed W ((‵ (flft κ q) ⊛ ‵ (flft κ′ q′) ⊛ ‵ ftrue) ∷ ‵ (owns (ShrSlice (named 0) κ u8 ∷ ShrSlice (named 0) κ u8 ∷ MutRef (named 1) κ′ T.the-row ∷ []) x at) ∷ []) ∵ enter ! C Λ code.function (vj ∷ vk ∷ vptr b o ∷ []) _ $
+        alloc1 ! (λ l₀. alloc1 ! (λ l₁. alloc1 ! (λ l₂. alloc1 ! (λ l₃. alloc1 ! (λ l₄. alloc1 ! (λ l₅. alloc1 ! (λ l₆. alloc1 ! (λ l₇. alloc1 ! (λ l₈. alloc0 ! $ params1 ! $ pass1 ! (init ! 14 refl (shr-slice-lawful 𝓤 H A W (named 0) κ u8 .typed s (vj ∷ []) p .0)) $ pass1 ! (init ! 12 refl (shr-slice-lawful 𝓤 H A W (named 0) κ u8 .typed k (vk ∷ []) p′ .0)) $ pass1 ! (init ! 10 refl (tt, tt)) $ pass0 ! $
+        move ! (19 ∷ []) $ fsplit ! $ move ! (1 ∷ []) $ fsplit ! $ move ! (1 ∷ []) $ fsplit ! $ fsplit3 ! $ drop ! $ move ! (23 ∷ []) $ split ! $ move ! (1 ∷ []) $ split ! $ move ! (3 ∷ 4 ∷ 0 ∷ []) $
         opens ! tt T.the-row {h = h} b o (λ vss. spelt ! T.the-row (Is T.the-row) (shows 𝓤 H A T.the-row) machS (LL.tells T.the-type T′.the-laws) fullShare h vss b o $
         use1 W (‵ (Cell 𝓤 H A W b o h (h .words))) (W .laws .raw-at fullShare T′.mir b o (LL.val T.the-type T′.the-laws h)) $
         move ! (1 ∷ []) $ peeks ! T.the-row (Is T.the-row) (shows 𝓤 H A T.the-row) h (machS h) (λ was. drop ! $
-        -- [the state's cell; the open borrow; obs; auth; true; the job's token; true; the job; _7; …; room for _0; …]: local i stands at 8 + 2 · (7 − i)
+        -- [the state's cell; the open borrow; obs; auth; true; the slices' token; true; the book; the job; _8; …; room for _0; …]: local i stands at 9 + 2 · (8 − i)
         -- the small fields are copied out, and the address of the message words is taken
-        assigns ! (of-opd ! (load ! (from ! (hop ! (look ! 18 refl) (fld ! refl (stop !)))) (look-in ! 0 (sub ! 0 refl (whole !))))) (from ! (stop !)) (init ! 16 refl (LL.lawful Cu.the-type Cu′.the-laws 𝓤 H A W .typed (h .cursor) _ (is-cursor h was) .0)) $
-        assigns ! (of-opd ! (load ! (from ! (hop ! (look ! 18 refl) (fld ! refl (stop !)))) (look-in ! 0 (sub ! 1 refl (whole !))))) (from ! (stop !)) (init ! 14 refl (LL.lawful Pg.the-type Pg′.the-laws 𝓤 H A W .typed (h .pages) _ (is-pages h was) .0)) $
-        assigns ! (of-opd ! (load ! (from ! (hop ! (look ! 18 refl) (fld ! refl (stop !)))) (look-in ! 0 (sub ! 2 refl (whole !))))) (from ! (stop !)) (init ! 12 refl (array-lawful 𝓤 H A W u8 (uint-lawful 𝓤 H A W w8) 48 .typed (h .sent) _ (is-sent h was) .0)) $
-        assigns ! (addr ! (from ! (hop ! (look ! 18 refl) (fld ! refl (stop !))))) (from ! (stop !)) (init ! 8 refl (tt, tt)) $
+        assigns ! (of-opd ! (load ! (from ! (hop ! (look ! 19 refl) (fld ! refl (stop !)))) (look-in ! 0 (sub ! 0 refl (whole !))))) (from ! (stop !)) (init ! 17 refl (LL.lawful Cu.the-type Cu′.the-laws 𝓤 H A W .typed (h .cursor) _ (is-cursor h was) .0)) $
+        assigns ! (of-opd ! (load ! (from ! (hop ! (look ! 19 refl) (fld ! refl (stop !)))) (look-in ! 0 (sub ! 1 refl (whole !))))) (from ! (stop !)) (init ! 15 refl (LL.lawful Pg.the-type Pg′.the-laws 𝓤 H A W .typed (h .pages) _ (is-pages h was) .0)) $
+        assigns ! (of-opd ! (load ! (from ! (hop ! (look ! 19 refl) (fld ! refl (stop !)))) (look-in ! 0 (sub ! 2 refl (whole !))))) (from ! (stop !)) (init ! 13 refl (array-lawful 𝓤 H A W u8 (uint-lawful 𝓤 H A W w8) 48 .typed (h .sent) _ (is-sent h was) .0)) $
+        assigns ! (addr ! (from ! (hop ! (look ! 19 refl) (fld ! refl (stop !))))) (from ! (stop !)) (init ! 9 refl (tt, tt)) $
         -- the message words are lent for ν
         lft-new ! tt (λ ν. move ! (1 ∷ []) $
         use1 W (later (some (λ (δ : GName). ‵ (Ref ν δ) ⊛ ‵ (flent (ν ∷ []) (Body (mem Words) b (o + words-at) δ)) ⊛ raw (Back 𝓤 H A W b o h)))) (lends-words 𝓤 H A W b o h (is-words h was) ν) $ await ! tt $ pick ! (λ δ. split ! $ move ! (1 ∷ []) $ split ! $
-        -- [the lender's part; the way back; the words; ν's token; the open borrow; obs; auth; true; the job's token; true; the job; _7; …]: `begin`
-        move ! (10 ∷ []) $ use1 W (‵ Job ⊛ ‵ Job) (shr-slice-copy 𝓤 H A W (named 0) κ u8 .twice s (vj ∷ [])) $ split ! $
-        move ! (0 ∷ 4 ∷ []) $ join ! $ move ! (9 ∷ 4 ∷ []) $ join ! $ move ! (0 ∷ 1 ∷ []) $ use2 W (raw (GC 𝓤 H A at-mem run .pre (to-begin ν δ))) (goes-begin was ν δ) $
-        calls-at ! fm (GC 𝓤 H A at-mem run) known (to-begin ν δ) (and-then ! (load ! (from ! (stop !)) (look ! 21 refl)) (and-then ! (load ! (from ! (stop !)) (look ! 17 refl)) (and-then ! (load ! (from ! (stop !)) (look ! 15 refl)) (and-then ! (load ! (from ! (stop !)) (look ! 13 refl)) (and-then ! (load ! (from ! (stop !)) (look ! 9 refl)) (no-more !)))))) (λ v.
+        -- [the lender's part; the way back; the words; ν's token; the open borrow; obs; auth; true; the slices' token; true; the book; the job; _8; …]: `begin`
+        move ! (11 ∷ []) $ use1 W (‵ Job ⊛ ‵ Job) (shr-slice-copy 𝓤 H A W (named 0) κ u8 .twice s (vj ∷ [])) $ split ! $
+        move ! (12 ∷ []) $ use1 W (‵ Book ⊛ ‵ Book) (shr-slice-copy 𝓤 H A W (named 0) κ u8 .twice k (vk ∷ [])) $ split ! $
+        move ! (0 ∷ 6 ∷ []) $ join ! $ move ! (2 ∷ 0 ∷ []) $ join ! $ move ! (10 ∷ 5 ∷ []) $ join ! $ move ! (0 ∷ 1 ∷ []) $ use2 W (raw (GC 𝓤 H A at-mem run .pre (to-begin ν δ))) (goes-begin was ν δ) $
+        calls-at ! fm (GC 𝓤 H A at-mem run) known (to-begin ν δ) (and-then ! (load ! (from ! (stop !)) (look ! 24 refl)) (and-then ! (load ! (from ! (stop !)) (look ! 22 refl)) (and-then ! (load ! (from ! (stop !)) (look ! 18 refl)) (and-then ! (load ! (from ! (stop !)) (look ! 16 refl)) (and-then ! (load ! (from ! (stop !)) (look ! 14 refl)) (and-then ! (load ! (from ! (stop !)) (look ! 10 refl)) (no-more !))))))) (λ v.
         use1 W (later (some (λ (r : Begun). ((‵ (flft κ q) ⊛ ‵ (flft (ν ∷ []) fullShare) ⊛ ‵ ftrue) ⊛ ‵ (Bg.the-row .own r (v ∷ []))) ⊛ raw (ensured 𝓤 H A g.ended (g.clauses 𝓤 H A at-mem run) (κ, (ν ∷ [], tt)) (to-begin ν δ .0 .3) tt r)))) (id⊢ 𝓤 _) $ await ! tt $ pick ! (λ r.
-        split ! $ move ! (1 ∷ []) $ use1 W (some (λ (zs : Last). ‵ (lasts g.ended (κ, (ν ∷ [], tt)) (to-begin ν δ .0 .3) zs) ⊛ raw (fact 𝓤 (Said r (zs .1 .1 .1 .1 .0))))) (id⊢ 𝓤 _) $ pick ! (λ zs.
-        split ! $ move ! (1 ∷ []) $ heard ! (Said r (zs .1 .1 .1 .1 .0)) (λ e. fsplit ! $ drop ! $ fsplit ! $ drop ! $ fsplit ! $ drop ! $ fsplit ! $ drop ! $ fsplit ! $
-        -- [the last words; true; the tokens and the answer; the job; the lender's part; the way back; the open borrow; obs; auth; true; true; _7; …]
+        split ! $ move ! (1 ∷ []) $ use1 W (some (λ (zs : Last). ‵ (lasts g.ended (κ, (ν ∷ [], tt)) (to-begin ν δ .0 .3) zs) ⊛ raw (fact 𝓤 (Said r (zs .1 .1 .1 .1 .1 .0))))) (id⊢ 𝓤 _) $ pick ! (λ zs.
+        split ! $ move ! (1 ∷ []) $ heard ! (Said r (zs .1 .1 .1 .1 .1 .0)) (λ e. fsplit ! $ drop ! $ fsplit ! $ drop ! $ fsplit ! $ drop ! $ fsplit ! $ drop ! $ fsplit ! $ drop ! $ fsplit ! $
+        -- [the last words; true; the tokens and the answer; the book; the job; the lender's part; the way back; the open borrow; obs; auth; true; true; _8; …]
         move ! (2 ∷ []) $ split ! $ move ! (1 ∷ []) $ peeks ! Bg.the-row (Is Bg.the-row) (shows 𝓤 H A Bg.the-row) r (v ∷ []) (λ is.
-        land ! (from ! (stop !)) (init ! 14 refl (LL.lawful Bg.the-type Bg′.the-laws 𝓤 H A W .typed r _ is .0)) $ drop ! $
-        rewrite ! 13 (λ (z : Val). ‵ (fat fullShare Bg′.mir l₆ 0 z)) (ap only (LL.tells Bg.the-type Bg′.the-laws r (v ∷ []) is)) refl $
+        land ! (from ! (stop !)) (init ! 15 refl (LL.lawful Bg.the-type Bg′.the-laws 𝓤 H A W .typed r _ is .0)) $ drop ! $
+        rewrite ! 14 (λ (z : Val). ‵ (fat fullShare Bg′.mir l₇ 0 z)) (ap only (LL.tells Bg.the-type Bg′.the-laws r (v ∷ []) is)) refl $
         -- ν is ended, and the message words come back
-        split ! $ move ! (1 ∷ []) $ split ! $ lft-end ! tt $ move ! (0 ∷ 6 ∷ 3 ∷ []) $
-        use3 W (later (‵ (mem Words .lies (zs .1 .1 .1 .1 .0) b (o + words-at)))) (ref-back 𝓤 H A W Words (ν ∷ []) δ (zs .1 .1 .1 .1 .0) b (o + words-at)) $ await ! tt $
-        move ! (0 ∷ 5 ∷ []) $ use2 W (‵ (Cell 𝓤 H A W b o h (zs .1 .1 .1 .1 .0)) ⊛ ‵ (Words .own (zs .1 .1 .1 .1 .0) (machW (zs .1 .1 .1 .1 .0) ∷ []))) (takes-words 𝓤 H A W b o h (zs .1 .1 .1 .1 .0)) $ split ! $
-        move ! (1 ∷ []) $ peeks ! Words (Is Words) (shows 𝓤 H A Words) (zs .1 .1 .1 .1 .0) _ (λ isw. drop ! $
-        -- [the state's cell; true; the job's token; true; the job; the open borrow; obs; auth; true; true; _7; …]: the small fields are written
-        assigns ! (of-opd ! (load ! (from ! (fld ! refl (stop !))) (look-in ! 12 (sub ! 1 refl (whole !))))) (from ! (hop ! (look ! 20 refl) (fld ! refl (stop !)))) (store-in ! 0 (sub ! 0 refl (whole !)) (LL.lawful Cu.the-type Cu′.the-laws 𝓤 H A W .typed (r .cursor) _ (new-cursor r v is) .0)) $
-        assigns ! (of-opd ! (load ! (from ! (fld ! refl (stop !))) (look-in ! 12 (sub ! 2 refl (whole !))))) (from ! (hop ! (look ! 20 refl) (fld ! refl (stop !)))) (store-in ! 0 (sub ! 1 refl (whole !)) (LL.lawful Pg.the-type Pg′.the-laws 𝓤 H A W .typed (r .pages) _ (new-pages r v is) .0)) $
-        assigns ! (of-opd ! (load ! (from ! (fld ! refl (stop !))) (look-in ! 12 (sub ! 3 refl (whole !))))) (from ! (hop ! (look ! 20 refl) (fld ! refl (stop !)))) (store-in ! 0 (sub ! 2 refl (whole !)) (array-lawful 𝓤 H A W u8 (uint-lawful 𝓤 H A W w8) 48 .typed (r .sent) _ (new-sent r v is) .0)) $
-        assigns ! (of-opd ! (load ! (from ! (fld ! refl (stop !))) (look-in ! 12 (sub ! 0 refl (whole !))))) (from ! (stop !)) (init ! 24 refl (LL.lawful Rf.the-type Rf′.the-laws 𝓤 H A W .typed (r .refusal) _ (is-refusal r v is) .0)) $
+        split ! $ move ! (1 ∷ []) $ split ! $ lft-end ! tt $ move ! (0 ∷ 7 ∷ 3 ∷ []) $
+        use3 W (later (‵ (mem Words .lies (zs .1 .1 .1 .1 .1 .0) b (o + words-at)))) (ref-back 𝓤 H A W Words (ν ∷ []) δ (zs .1 .1 .1 .1 .1 .0) b (o + words-at)) $ await ! tt $
+        move ! (0 ∷ 6 ∷ []) $ use2 W (‵ (Cell 𝓤 H A W b o h (zs .1 .1 .1 .1 .1 .0)) ⊛ ‵ (Words .own (zs .1 .1 .1 .1 .1 .0) (machW (zs .1 .1 .1 .1 .1 .0) ∷ []))) (takes-words 𝓤 H A W b o h (zs .1 .1 .1 .1 .1 .0)) $ split ! $
+        move ! (1 ∷ []) $ peeks ! Words (Is Words) (shows 𝓤 H A Words) (zs .1 .1 .1 .1 .1 .0) _ (λ isw. drop ! $
+        -- [the state's cell; true; the slices' token; true; the book; the job; the open borrow; obs; auth; true; true; _8; …]: the small fields are written
+        assigns ! (of-opd ! (load ! (from ! (fld ! refl (stop !))) (look-in ! 13 (sub ! 1 refl (whole !))))) (from ! (hop ! (look ! 21 refl) (fld ! refl (stop !)))) (store-in ! 0 (sub ! 0 refl (whole !)) (LL.lawful Cu.the-type Cu′.the-laws 𝓤 H A W .typed (r .cursor) _ (new-cursor r v is) .0)) $
+        assigns ! (of-opd ! (load ! (from ! (fld ! refl (stop !))) (look-in ! 13 (sub ! 2 refl (whole !))))) (from ! (hop ! (look ! 21 refl) (fld ! refl (stop !)))) (store-in ! 0 (sub ! 1 refl (whole !)) (LL.lawful Pg.the-type Pg′.the-laws 𝓤 H A W .typed (r .pages) _ (new-pages r v is) .0)) $
+        assigns ! (of-opd ! (load ! (from ! (fld ! refl (stop !))) (look-in ! 13 (sub ! 3 refl (whole !))))) (from ! (hop ! (look ! 21 refl) (fld ! refl (stop !)))) (store-in ! 0 (sub ! 2 refl (whole !)) (array-lawful 𝓤 H A W u8 (uint-lawful 𝓤 H A W w8) 48 .typed (r .sent) _ (new-sent r v is) .0)) $
+        assigns ! (of-opd ! (load ! (from ! (fld ! refl (stop !))) (look-in ! 13 (sub ! 0 refl (whole !))))) (from ! (stop !)) (init ! 27 refl (LL.lawful Rf.the-type Rf′.the-laws 𝓤 H A W .typed (r .refusal) _ (is-refusal r v is) .0)) $
         -- the borrow is closed at the new state
-        use1 W (‵ (cellAt fullShare (T.the-row .mir) (machS (new r (zs .1 .1 .1 .1 .0))) b o)) (W .laws .at-raw fullShare T′.mir b o (LL.val T.the-type T′.the-laws (new r (zs .1 .1 .1 .1 .0)))) $
-        owned ! T.the-row (Is T.the-row) (LL.makes T.the-type T′.the-plain 𝓤 H A) (new r (zs .1 .1 .1 .1 .0)) _ (made r v is (zs .1 .1 .1 .1 .0) isw) $ move ! (1 ∷ 0 ∷ 6 ∷ 7 ∷ 8 ∷ []) $ closes ! tt T.the-row (new r (zs .1 .1 .1 .1 .0)) (machS (new r (zs .1 .1 .1 .1 .0))) b o $
-        returns ! (look ! 23 refl) $ forget ! 9 refl $ forget ! 11 refl $ forget ! 13 refl $ forget ! 15 refl $ forget ! 17 refl $ forget ! 19 refl $ forget ! 21 refl $ forget ! 23 refl $
-        move ! (23 ∷ 24 ∷ []) $ free1 ! $ move ! (21 ∷ 22 ∷ []) $ free1 ! $ move ! (19 ∷ 20 ∷ []) $ free1 ! $ move ! (17 ∷ 18 ∷ []) $ free1 ! $ move ! (15 ∷ 16 ∷ []) $ free1 ! $ move ! (13 ∷ 14 ∷ []) $ free1 ! $ move ! (11 ∷ 12 ∷ []) $ free1 ! $ move ! (9 ∷ 10 ∷ []) $ free1 ! $ free0 ! $
-        keep ! (4 ∷ 0 ∷ 1 ∷ 2 ∷ 3 ∷ 6 ∷ []) $ by ! (exits r (zs .1 .1 .1 .1 .0) (is-refusal r v is) e)))))))))))))))))))
+        use1 W (‵ (cellAt fullShare (T.the-row .mir) (machS (new r (zs .1 .1 .1 .1 .1 .0))) b o)) (W .laws .at-raw fullShare T′.mir b o (LL.val T.the-type T′.the-laws (new r (zs .1 .1 .1 .1 .1 .0)))) $
+        owned ! T.the-row (Is T.the-row) (LL.makes T.the-type T′.the-plain 𝓤 H A) (new r (zs .1 .1 .1 .1 .1 .0)) _ (made r v is (zs .1 .1 .1 .1 .1 .0) isw) $ move ! (1 ∷ 0 ∷ 7 ∷ 8 ∷ 9 ∷ []) $ closes ! tt T.the-row (new r (zs .1 .1 .1 .1 .1 .0)) (machS (new r (zs .1 .1 .1 .1 .1 .0))) b o $
+        returns ! (look ! 26 refl) $ forget ! 10 refl $ forget ! 12 refl $ forget ! 14 refl $ forget ! 16 refl $ forget ! 18 refl $ forget ! 20 refl $ forget ! 22 refl $ forget ! 24 refl $ forget ! 26 refl $
+        move ! (26 ∷ 27 ∷ []) $ free1 ! $ move ! (24 ∷ 25 ∷ []) $ free1 ! $ move ! (22 ∷ 23 ∷ []) $ free1 ! $ move ! (20 ∷ 21 ∷ []) $ free1 ! $ move ! (18 ∷ 19 ∷ []) $ free1 ! $ move ! (16 ∷ 17 ∷ []) $ free1 ! $ move ! (14 ∷ 15 ∷ []) $ free1 ! $ move ! (12 ∷ 13 ∷ []) $ free1 ! $ move ! (10 ∷ 11 ∷ []) $ free1 ! $ free0 ! $
+        keep ! (4 ∷ 0 ∷ 1 ∷ 2 ∷ 3 ∷ 7 ∷ 6 ∷ []) $ by ! (exits r (zs .1 .1 .1 .1 .1 .0) (is-refusal r v is) e))))))))))))))))))))
 
 module _ {M : Type 1} (𝓤 : URA M) (H : Heap 𝓤) (A : Atoms 𝓤) (W : Given 𝓤 H A) (mem : Memory → SProp 𝓤) (run : Routine → Fun 𝓤) where
   card-start-walks : (C : Calls 𝓤 H) (Λ : Loops 𝓤 H) → FmC 𝓤 H (W .laws) C → Triple 𝓤 (C #card·begin) (GC 𝓤 H A mem run)
       → Walks 𝓤 H A f.ended stayed (WpFn 𝓤 H C Λ code.function) (f.clauses 𝓤 H A mem run)
-  card-start-walks C Λ fm known = walked 𝓤 H A f.ended stayed (f.clauses 𝓤 H A mem run) (WpFn 𝓤 H C Λ code.function) (λ κs. (slice-vals, (ptr-vals, tt))) (λ κs. (shr-slice-tells (named 0) (κs .0) u8, (mut-tells (named 1) (κs .1 .0) T.the-row, tt)))
-      (λ κs qs bounds a _ are. via 𝓤 _ (fst∗ 𝓤 _ (emp 𝓤)) (walk 𝓤 H A W mem run (κs .0) (κs .1 .0) (qs .0) (qs .1 .0) bounds (a .0) (a .1 .0 .ptr .0) (a .1 .0 .ptr .1) (a .1 .0 .name) (a .1 .0 .now) C Λ fm known (are .0)))
+  card-start-walks C Λ fm known = walked 𝓤 H A f.ended stayed (f.clauses 𝓤 H A mem run) (WpFn 𝓤 H C Λ code.function) (λ κs. (slice-vals, (slice-vals, (ptr-vals, tt)))) (λ κs. (shr-slice-tells (named 0) (κs .0) u8, (shr-slice-tells (named 0) (κs .0) u8, (mut-tells (named 1) (κs .1 .0) T.the-row, tt))))
+      (λ κs qs bounds a _ are. via 𝓤 _ (fst∗ 𝓤 _ (emp 𝓤)) (walk 𝓤 H A W mem run (κs .0) (κs .1 .0) (qs .0) (qs .1 .0) bounds (a .0) (a .1 .0) (a .1 .1 .0 .ptr .0) (a .1 .1 .0 .ptr .1) (a .1 .1 .0 .name) (a .1 .1 .0 .now) C Λ fm known (are .0) (are .1 .0)))
 
 card-start-meets : {M : Type 1} (𝓤 : URA M) (H : Heap 𝓤) (A : Atoms 𝓤) (W : Given 𝓤 H A) (mem : Memory → SProp 𝓤) (run : Routine → Fun 𝓤) (𝓣 : Tables 𝓤 H)
     → Triple 𝓤 (𝓣 .C #card·begin) (GC 𝓤 H A mem run)
     → Meets 𝓤 H A f.signature (WpFn 𝓤 H (𝓣 .C) (𝓣 .Λ) code.function) (f.spec 𝓤 H A mem run)
-card-start-meets 𝓤 H A W mem run 𝓣 known = walk-meets 𝓤 H A f.ended stayed W (goes-none-slice 𝓤 H A W 2 (0 ∷ []) tt (plain (λ _. u8)) yes, (goes-ref 𝓤 H A W 2 1 tt (plain (λ _. T.the-row)), tt)) (f.clauses 𝓤 H A mem run) (WpFn 𝓤 H (𝓣 .C) (𝓣 .Λ) code.function) (WpFn-mono 𝓤 H (W .laws) 𝓣 code.function)
+card-start-meets 𝓤 H A W mem run 𝓣 known = walk-meets 𝓤 H A f.ended stayed W (goes-none-slice 𝓤 H A W 2 (0 ∷ []) tt (plain (λ _. u8)) yes, (goes-none-slice 𝓤 H A W 2 (0 ∷ []) tt (plain (λ _. u8)) yes, (goes-ref 𝓤 H A W 2 1 tt (plain (λ _. T.the-row)), tt))) (f.clauses 𝓤 H A mem run) (WpFn 𝓤 H (𝓣 .C) (𝓣 .Λ) code.function) (WpFn-mono 𝓤 H (W .laws) 𝓣 code.function)
     (card-start-walks 𝓤 H A W mem run (𝓣 .C) (𝓣 .Λ) (fmOf 𝓤 H (W .laws) 𝓣) known)
 
 pub card-start-spec : {M : Type 1} → stated.statement M

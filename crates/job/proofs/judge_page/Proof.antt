@@ -10,7 +10,7 @@ use Rattle.job.proofs.judge_page.Tie as tie
 returns : tie.Need-returns
 unfolding pageOf
 returns c =
-    let a = c .before .before .args in
+    let a = c .before .before .before .args in
     simp (lt-ltb 0x1FFFFF (a .page .identity) (omega arith))
 
 is-reserved-requires : tie.Need-is-reserved-requires
@@ -19,7 +19,7 @@ is-reserved-requires c κs = search needs
 returns-2 : tie.Need-returns-2
 unfolding pageOf
 returns-2 c =
-    let a = c .before .before .before .before .args in
+    let a = c .before .before .before .before .before .args in
     simp (le-ltb 0x1FFFFF (a .page .identity) (omega arith), sym (c .before .is-reserved .ensures) ∙ c .if2 .taken)
 
 judge-kind-requires : tie.Need-judge-kind-requires
@@ -28,7 +28,7 @@ judge-kind-requires c κs = search needs
 returns-3 : tie.Need-returns-3
 unfolding pageOf
 returns-3 c =
-    let a = c .before .before .before .before .before .args in
+    let a = c .before .before .before .before .before .before .args in
     rw (c .judge-kind .ensures) (simp (le-ltb 0x1FFFFF (a .page .identity) (omega arith), sym (c .before .before .is-reserved .ensures) ∙ c .before .if2 .left))
 
 pub judge-page-spec : {M : Type 1} → statement M

@@ -18,15 +18,15 @@ char-run-requires : tie.Need-char-run-requires
 char-run-requires c κs = search needs
 
 -- the run, as the definition has it
-found : (c : tie.After-char-run) → c .char-run .result ≡ charRun (codingOf (c .before .before .before .args .page .kind)) (now (c .before .before .before .args .text))
-found c = c .char-run .ensures ∙ ap (λ (x : Coding). charRun x (now (c .before .before .before .args .text))) (c .before .coding .ensures)
+found : (c : tie.After-char-run) → c .char-run .result ≡ charRun (codingOf (c .before .before .before .before .args .page .kind)) (now (c .before .before .before .before .args .text))
+found c = c .char-run .ensures ∙ ap (λ (x : Coding). charRun x (now (c .before .before .before .before .args .text))) (c .before .coding .ensures)
 
 is-pairs-requires : tie.Need-is-pairs-requires
-is-pairs-requires c κs = let a = c .before .before .before .args in omega (arith, found c, run-digits (codingOf (a .page .kind)) (now (a .text)))
+is-pairs-requires c κs = let a = c .before .before .before .before .args in omega (arith, found c, run-digits (codingOf (a .page .kind)) (now (a .text)))
 
 judge-page-requires : tie.Need-judge-page-requires
 judge-page-requires c κs = λ _.
-    let a = c .before .before .before .before .before .args in
+    let a = c .before .before .before .before .before .before .args in
     found (c .before .before) ∙ pairs-run (now (a .text)) (a .page .kind) (sym (c .before .is-pairs .ensures) ∙ c .if1 .taken)
 
 returns : tie.Need-returns

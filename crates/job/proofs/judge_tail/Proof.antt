@@ -13,12 +13,12 @@ use Rattle.job.proofs.judge_tail.Statement.{statement}
 use Rattle.job.proofs.judge_tail.Tie as tie
 
 judge-page-requires : tie.Need-judge-page-requires
-judge-page-requires c κs = λ _. let a = c .before .before .args in empty-run (now (a .t)) (a .page .kind) (c .if1 .taken)
+judge-page-requires c κs = λ _. let a = c .before .before .before .args in empty-run (now (a .t)) (a .page .kind) (c .if1 .taken)
 
 returns : tie.Need-returns
 unfolding tailFormed
 returns c =
-    let none : now (c .before .before .before .args .t) ≡ [] = drop-of-length-le (now (c .before .before .before .args .t)) {i = 0} (omega arith) in
+    let none : now (c .before .before .before .before .args .t) ≡ [] = drop-of-length-le (now (c .before .before .before .before .args .t)) {i = 0} (omega arith) in
     rw (c .judge-page .ensures, none)
 
 shared-slice-read-if2 : tie.Need-shared-slice-read-if2
@@ -42,7 +42,7 @@ judge-digits-requires c κs = search needs
 
 returns-3 : tie.Need-returns-3
 unfolding tailFormed
-returns-3 c = rw (c .judge-digits .ensures, to-end 1 (now (c .before .before .before .before .before .before .args .t)))
+returns-3 c = rw (c .judge-digits .ensures, to-end 1 (now (c .before .before .before .before .before .before .before .args .t)))
     (simp (ne-eqb _ _ (c .before .before .before .before .if1 .left), eq-eqb _ _ (c .before .before .if2 .left)))
 
 pub judge-tail-spec : {M : Type 1} → statement M

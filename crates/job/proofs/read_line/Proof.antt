@@ -16,15 +16,15 @@ use Rattle.job.proofs.read_line.Statement.{statement}
 use Rattle.job.proofs.read_line.Tie as tie
 
 -- What is known once the head has its form.
-head : (c : tie.Else1) → headFormed (now (c .before .before .before .args .line)) ≡ true
+head : (c : tie.Else1) → headFormed (now (c .before .before .before .before .args .line)) ≡ true
 head c = sym (c .before .head-formed .ensures) ∙ not-false _ (c .if1 .left)
 
-long : (c : tie.Else1) → 8 ≤ length (now (c .before .before .before .args .line))
+long : (c : tie.Else1) → 8 ≤ length (now (c .before .before .before .before .args .line))
 long c = head-long _ (head c)
 
 -- Six digits write a number that fits.
-number : (c : tie.After-hex-number) → c .hex-number .result ≡ identityOf (now (c .before .before .before .before .before .args .line))
-number c = let l = now (c .before .before .before .before .before .args .line) in
+number : (c : tie.After-hex-number) → c .hex-number .result ≡ identityOf (now (c .before .before .before .before .before .before .args .line))
+number c = let l = now (c .before .before .before .before .before .before .args .line) in
     c .hex-number .ensures ∙ number-fits (take 6 l) (let h = long (c .before .before) in omega (arith, length-take-le 6 l (omega arith)))
 
 head-formed-requires : tie.Need-head-formed-requires
@@ -35,7 +35,7 @@ unfolding lineOf wellFormed
 returns c = rw (sym (c .before .head-formed .ensures) ∙ not-true _ (c .if1 .taken))
 
 slice-aggregate-hex-number : tie.Need-slice-aggregate-hex-number
-slice-aggregate-hex-number c = sym (length-take-le 6 (now (c .before .before .before .before .args .line)) (let h = long (c .before) in omega arith))
+slice-aggregate-hex-number c = sym (length-take-le 6 (now (c .before .before .before .before .before .args .line)) (let h = long (c .before) in omega arith))
 
 hex-number-requires : tie.Need-hex-number-requires
 hex-number-requires c κs = search needs
@@ -72,7 +72,7 @@ unfolding lineOf wellFormed
 returns-2 c =
     let n = c .before .before in
     let v = n .before in
-    let a = v .before .before .before .before .before .before .before .args in
+    let a = v .before .before .before .before .before .before .before .before .args in
     let l = now (a .line) in
     rw (c .judge-tail .ensures, number (v .before .before), v .hex-value .ensures, n .text-length .ensures, to-end 8 l, drop-drop 1 8 l, head (v .before .before .before .before))
 

@@ -6,6 +6,7 @@ use lib.ListN.{length}
 use denote.Ref.{now}
 use borrow.Author.Needs.{needs}
 use Rattle.base.proofs.LinesLaws.{end-after}
+use Rattle.job.specs.Submission.{withBook}
 use Rattle.job.specs.Pages.{pagesOf}
 use Rattle.job.proofs.Laws.{judge-many, judge-unended, judge-line}
 use Rattle.job.proofs.Keeping.{Keeping, keeping-none, keeping-more, keeping-all, answer-refused}
@@ -13,20 +14,20 @@ use Rattle.job.proofs.read_lines.Statement.{statement}
 use Rattle.job.proofs.read_lines.Tie as tie
 
 abbrev Inv-loop : tie.InvT-loop
-Inv-loop job pages₀ at₀ k₀ pages at k = Keeping job at k pages
+Inv-loop job book pages₀ at₀ k₀ pages at k = Keeping book job at k pages
 
 abbrev μ-loop : tie.MeasureT-loop
-μ-loop job pages₀ at₀ k₀ pages at k = length job - at
+μ-loop job book pages₀ at₀ k₀ pages at k = length job - at
 
 -- where the line ends
 ended : (c : tie.After-line-end Inv-loop μ-loop) → c .before .before .before .loop .at ≤ c .line-end .result
-ended c = rw (c .line-end .ensures) (end-after (now (c .before .before .before .before .before .before .args .job)) (c .before .before .before .loop .at))
+ended c = rw (c .line-end .ensures) (end-after (now (c .before .before .before .before .before .before .before .args .job)) (c .before .before .before .loop .at))
 
 no-pages-requires : tie.Need-no-pages-requires Inv-loop μ-loop
 no-pages-requires c κs = search needs
 
 loop-holds : tie.Need-loop-holds Inv-loop μ-loop
-loop-holds c = rw (c .no-pages .ensures) (keeping-none (now (c .before .before .args .job)))
+loop-holds c = rw (c .no-pages .ensures) (let a = c .before .before .before .args in keeping-none (now (a .book)) (now (a .job)))
 
 refused-requires : tie.Need-refused-requires Inv-loop μ-loop
 refused-requires c κs = search needs
@@ -34,9 +35,11 @@ refused-requires c κs = search needs
 returns : tie.Need-returns Inv-loop μ-loop
 returns c =
     let l = c .before .before .before in
-    let job = now (l .before .before .before .args .job) in
+    let a = l .before .before .before .before .args in
+    let b = now (a .book) in
+    let job = now (a .job) in
     c .refused .ensures
-    ∙ answer-refused _ (pagesOf job) (l .loop .inv .answer ∙ judge-many job (l .loop .at) (l .loop .k) (omega arith) (omega arith))
+    ∙ answer-refused _ (pagesOf (withBook job b)) (l .loop .inv .answer ∙ judge-many b job (l .loop .at) (l .loop .k) (omega arith) (omega arith))
 
 line-end-requires : tie.Need-line-end-requires Inv-loop μ-loop
 line-end-requires c κs = search needs
@@ -50,10 +53,12 @@ refused-requires-2 c κs = search needs
 returns-2 : tie.Need-returns-2 Inv-loop μ-loop
 returns-2 c =
     let l = c .before .before .before .before .before in
-    let job = now (l .before .before .before .args .job) in
+    let a = l .before .before .before .before .args in
+    let b = now (a .book) in
+    let job = now (a .job) in
     let q = c .before .before .line-end .ensures in
     c .refused2 .ensures
-    ∙ answer-refused _ (pagesOf job) (l .loop .inv .answer ∙ judge-unended job (l .loop .at) (l .loop .k) (omega arith) (omega arith) (omega arith))
+    ∙ answer-refused _ (pagesOf (withBook job b)) (l .loop .inv .answer ∙ judge-unended b job (l .loop .at) (l .loop .k) (omega arith) (omega arith) (omega arith))
 
 sub-read-line : tie.Need-sub-read-line Inv-loop μ-loop
 sub-read-line c = omega (arith, ended (c .before))
@@ -79,9 +84,11 @@ refused-requires-3 c κs = search needs
 returns-3 : tie.Need-returns-3 Inv-loop μ-loop
 returns-3 c =
     let l = c .before .before .before .before .before .before .before .before .before .before in
-    let job = now (l .before .before .before .args .job) in
+    let a = l .before .before .before .before .args in
+    let b = now (a .book) in
+    let job = now (a .job) in
     c .refused3 .ensures
-    ∙ answer-refused _ (pagesOf job) (l .loop .inv .answer ∙ judge-line job (l .loop .at) (l .loop .k) (c .before .before .before .before .before .before .before .line-end .ensures) (omega arith) (omega arith)
+    ∙ answer-refused _ (pagesOf (withBook job b)) (l .loop .inv .answer ∙ judge-line b job (l .loop .at) (l .loop .k) (c .before .before .before .before .before .before .before .line-end .ensures) (omega arith) (omega arith)
     (sym (c .before .before .why .given .1) ∙ c .before .before .before .before .read-line .ensures))
 
 enum-known-page : tie.Need-enum-known-page Inv-loop μ-loop
@@ -105,14 +112,17 @@ loop-less c = omega (arith, ended (c .before .before .before .before .before .be
 loop-again : tie.Need-loop-again Inv-loop μ-loop
 loop-again c =
     let l = c .before .before .before .before .before .before .before .before .before in
-    let job = now (l .before .before .before .args .job) in
-    keeping-more job (l .loop .at) (l .loop .k) (l .loop .inv) (c .before .before .before .before .before .before .line-end .ensures) (omega arith) (omega arith)
+    let a = l .before .before .before .before .args in
+    let b = now (a .book) in
+    let job = now (a .job) in
+    keeping-more b job (l .loop .at) (l .loop .k) (l .loop .inv) (c .before .before .before .before .before .before .line-end .ensures) (omega arith) (omega arith)
     (sym (c .before .before .before .read-line .ensures) ∙ c .before .page .given .1)
 
 returns-4 : tie.Need-returns-4 Inv-loop μ-loop
 returns-4 c =
     let l = c .before in
-    keeping-all (now (l .before .before .before .args .job)) (l .loop .at) (l .loop .k) (l .loop .inv) (c .loop-test .left)
+    let a = l .before .before .before .before .args in
+    keeping-all (now (a .book)) (now (a .job)) (l .loop .at) (l .loop .k) (l .loop .inv) (c .loop-test .left)
 
 pub read-lines-spec : {M : Type 1} → statement M
 read-lines-spec =

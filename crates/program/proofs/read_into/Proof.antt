@@ -15,10 +15,10 @@ counts : (n : ℕ) (bytes : List ℕ) → n ≤ length bytes → Counts n bytes
 counts n bytes h = (h, sym (length-take-le n bytes h))
 
 abbrev Inv-loop : tie.InvT-loop
-Inv-loop input₀ n₀ input n = (n ≤ length input) × (length input ≡ length input₀)
+Inv-loop fd input₀ n₀ input n = (n ≤ length input) × (length input ≡ length input₀)
 
 abbrev μ-loop : tie.MeasureT-loop
-μ-loop input₀ n₀ input n = length input - n
+μ-loop fd input₀ n₀ input n = length input - n
 
 loop-holds : tie.Need-loop-holds Inv-loop μ-loop
 loop-holds c = search needs

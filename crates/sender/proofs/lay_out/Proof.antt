@@ -8,6 +8,7 @@ use denote.Ref.{now}
 use Rattle.base.specs.Lists.{over, tab}
 use Rattle.base.proofs.ListLaws.{to-end}
 use Rattle.codeword.specs.Code.{codeword, addressBits, messageBits}
+use Rattle.job.specs.Submission.{Submission, withBook}
 use Rattle.job.specs.Message.{groupFrom}
 use Rattle.job.specs.Pages.{noPage, digitsIn}
 use Rattle.transmission.specs.Sending.{Sending, sendingsOf, sendingAt}
@@ -19,23 +20,27 @@ use Rattle.sender.proofs.lay_out.Statement.{statement}
 use Rattle.sender.proofs.lay_out.Tie as tie
 
 abbrev Inv-loop : tie.InvT-loop
-Inv-loop job n words₀ read addresses₀ starts₀ lengths₀ frames₀ at₀ i₀ words addresses starts lengths frames at i = (i ≤ n) × (n ≤ 48) × (at ≤ 4032) × (length words ≡ 4032) × Laid (sendingsOf job) words₀ i at addresses starts lengths frames words
+Inv-loop job book n words₀ read addresses₀ starts₀ lengths₀ frames₀ at₀ i₀ words addresses starts lengths frames at i = (i ≤ n) × (n ≤ 48) × (at ≤ 4032) × (length words ≡ 4032) × Laid (sendingsOf (withBook job book)) words₀ i at addresses starts lengths frames words
 
 abbrev μ-loop : tie.MeasureT-loop
-μ-loop job n words₀ read addresses₀ starts₀ lengths₀ frames₀ at₀ i₀ words addresses starts lengths frames at i = n - i
+μ-loop job book n words₀ read addresses₀ starts₀ lengths₀ frames₀ at₀ i₀ words addresses starts lengths frames at i = n - i
+
+-- the job and its book
+abbrev submitted : tie.Start Inv-loop μ-loop → Submission
+submitted from = withBook (now (from .args .job)) (now (from .args .book))
 
 -- the number of groups of page i
-counted : (c : tie.After-groups Inv-loop μ-loop) → c .groups .result ≡ length (sendingAt (sendingsOf (now (c .before .before .before .before .before .before .before .args .job))) (c .before .before .before .before .loop .i) .groups)
+counted : (c : tie.After-groups Inv-loop μ-loop) → c .groups .result ≡ length (sendingAt (sendingsOf (submitted (c .before .before .before .before .before .before .before .before))) (c .before .before .before .before .loop .i) .groups)
 counted c =
-    let b = c .before .before .before .before .before .before .before in
+    let b = c .before .before .before .before .before .before .before .before in
     let i = c .before .before .before .before .loop .i in
     c .groups .ensures
-    ∙ groups-are (now (b .args .job)) (b .args .n) (b .pre .0 .1) (b .pre .0 .0) i (omega arith)
+    ∙ groups-are (submitted b) (b .args .n) (b .pre .0 .1) (b .pre .0 .0) i (omega arith)
 
 loop-holds : tie.Need-loop-holds Inv-loop μ-loop
 loop-holds c =
-    let b = c .before .before in
-    let s = now (b .args .job) in
+    let b = c .before .before .before in
+    let s = submitted b in
     (omega arith, omega (arith, accepted-sendings s (b .args .n) (b .pre .0 .1) .most, sendings-count s (b .args .n) (b .pre .0 .1)), omega arith, b .pre .1, laid-none (sendingsOf s) (now (b .args .words)))
 
 mul-page : tie.Need-mul-page Inv-loop μ-loop
@@ -46,8 +51,8 @@ element-copy-out-page c = search needs
 
 cast-groups : tie.Need-cast-groups Inv-loop μ-loop
 cast-groups c =
-    let b = c .before .before .before .before .before .before in
-    record { fits = omega (arith, few-digits (now (b .args .job)) (b .args .n) (b .pre .0 .1) (b .pre .0 .0) (c .before .before .before .loop .i) (omega arith)) }
+    let b = c .before .before .before .before .before .before .before in
+    record { fits = omega (arith, few-digits (submitted b) (b .args .n) (b .pre .0 .1) (b .pre .0 .0) (c .before .before .before .loop .i) (omega arith)) }
 
 groups-requires : tie.Need-groups-requires Inv-loop μ-loop
 groups-requires c κs = search needs
@@ -78,9 +83,9 @@ array-write-starts c = search needs
 
 cast-lengths : tie.Need-cast-lengths Inv-loop μ-loop
 cast-lengths c =
-    let b = c .before .before .before .before .before .before .before .before .before .before in
+    let b = c .before .before .before .before .before .before .before .before .before .before .before in
     let l = c .before .before .before .before .before .before .before .loop in
-    let s = now (b .args .job) in
+    let s = submitted b in
     let ok = b .pre .0 .1 in
     let h = c .before .before .before .before .before .before .loop-test .taken in
     let e = counted (c .before .before .before) in
@@ -105,9 +110,9 @@ page-text-requires c κs = search needs
 
 cast-write-message : tie.Need-cast-write-message Inv-loop μ-loop
 cast-write-message c =
-    let b = c .before .before .before .before .before .before .before .before .before .before .before in
+    let b = c .before .before .before .before .before .before .before .before .before .before .before .before in
     let l = c .before .before .before .before .before .before .before .before .loop in
-    let s = now (b .args .job) in
+    let s = submitted b in
     let ok = b .pre .0 .1 in
     let h = c .before .before .before .before .before .before .before .loop-test .taken in
     let e = counted (c .before .before .before .before) in
@@ -129,9 +134,9 @@ part-write-message-end c = search needs
 
 write-message-requires : tie.Need-write-message-requires Inv-loop μ-loop
 write-message-requires c κs =
-    let b = c .before .before .before .before .before .before .before .before .before .before .before .before in
+    let b = c .before .before .before .before .before .before .before .before .before .before .before .before .before in
     let l = c .before .before .before .before .before .before .before .before .before .loop in
-    let s = now (b .args .job) in
+    let s = submitted b in
     let ok = b .pre .0 .1 in
     let h = c .before .before .before .before .before .before .before .before .loop-test .taken in
     let e = counted (c .before .before .before .before .before) in
@@ -142,9 +147,9 @@ write-message-requires c κs =
 
 add-at : tie.Need-add-at Inv-loop μ-loop
 add-at c =
-    let b = c .before .before .before .before .before .before .before .before .before .before .before .before .before .before .before in
+    let b = c .before .before .before .before .before .before .before .before .before .before .before .before .before .before .before .before in
     let l = c .before .before .before .before .before .before .before .before .before .before .before .before .loop in
-    let s = now (b .args .job) in
+    let s = submitted b in
     let ok = b .pre .0 .1 in
     let h = c .before .before .before .before .before .before .before .before .before .before .before .loop-test .taken in
     let e = counted (c .before .before .before .before .before .before .before .before) in
@@ -161,16 +166,16 @@ loop-less c = search needs
 
 loop-again : tie.Need-loop-again Inv-loop μ-loop
 loop-again c =
-    let b = c .before .before .before .before .before .before .before .before .before .before .before .before .before .before .before in
+    let b = c .before .before .before .before .before .before .before .before .before .before .before .before .before .before .before .before in
     let l = c .before .before .before .before .before .before .before .before .before .before .before .before .loop in
-    let s = now (b .args .job) in
+    let s = submitted b in
     let ok = b .pre .0 .1 in
     let h = c .before .before .before .before .before .before .before .before .before .before .before .loop-test .taken in
     let e = counted (c .before .before .before .before .before .before .before .before) in
     let all = sendings-count s (b .args .n) ok in
     let a = accepted-sendings s (b .args .n) ok in
     let old = now (b .args .words) in
-    let page = getD (b .args .t2 .pages) (l .i) noPage in
+    let page = getD (b .args .t3 .pages) (l .i) noPage in
     let identity = page .identity in
     let kind = page .kind in
     let digits = digitsIn s page in
@@ -179,7 +184,7 @@ loop-again c =
     let rest = take (length (l .words) - l .at) (drop (l .at) (l .words)) in
     let part =
     c .before .before .write-message .ensures
-    ∙ ap (λ (t : List ℕ). over rest (tab (λ g. codeword (messageBits (groupFrom kind t g))) groups)) (c .before .before .before .before .page-text .ensures)
+    ∙ ap (λ (t : List ℕ). over rest (tab (λ g. codeword (messageBits (groupFrom kind t g))) groups)) (c .before .before .before .before .page-text .ensures .1)
     ∙ ap (over rest) (message-is identity kind digits groups (e ∙ sym (ap (λ (y : Sending). length (y .groups)) x))) in
     let next =
     laid-more (sendingsOf s) a old (b .pre .1) (l .i) (l .at) (l .inv .4) (omega arith) x
@@ -195,13 +200,13 @@ cast-count : tie.Need-cast-count Inv-loop μ-loop
 cast-count c = search needs
 
 same-length : tie.Need-same-length Inv-loop μ-loop
-same-length c = let b = c .before .before .before .before in c .before .loop .inv .3 ∙ sym (b .pre .1)
+same-length c = let b = c .before .before .before .before .before in c .before .loop .inv .3 ∙ sym (b .pre .1)
 
 returns : tie.Need-returns Inv-loop μ-loop
 returns c =
-    let b = c .before .before .before .before in
+    let b = c .before .before .before .before .before in
     let l = c .before .loop in
-    let s = now (b .args .job) in
+    let s = submitted b in
     let ok = b .pre .0 .1 in
     let all = sendings-count s (b .args .n) ok in
     let a = accepted-sendings s (b .args .n) ok in

@@ -59,7 +59,7 @@ loop-again c =
     let old = now (a .groups) in (
       omega arith,
       length-set (l .groups) (l .g) (c .hex-number .result) ∙ l .inv .1,
-      tab-turn (fiveAt digits) (length old) old refl (l .g) (l .inv .2) (omega arith) (five digits (l .g) (c .before .part .ensures) (c .hex-number .ensures)),
+      tab-turn (fiveAt digits) (length old) old refl (l .g) (l .inv .2) (omega arith) (five digits (l .g) (c .before .part .ensures .1) (c .hex-number .ensures)),
     )
 
 same-length : tie.Need-same-length Inv-loop μ-loop

@@ -21,13 +21,13 @@ room : (n : ℕ) → n ≤ 84 → length (take {A = ℕ} n (replicate 84 0)) ≡
 room n h = length-take-le n (replicate 84 0) h
 
 slice-aggregate-write-packed : tie.Need-slice-aggregate-write-packed
-slice-aggregate-write-packed c = let start = c .before .before .before .before in sym (room (start .args .groups) (start .pre .1 .0 .0))
+slice-aggregate-write-packed c = let start = c .before .before .before .before .before in sym (room (start .args .groups) (start .pre .1 .0 .0))
 
 write-packed-requires : tie.Need-write-packed-requires
 write-packed-requires c κs =
     let text = c .before .before in
-    let start = text .before .before .before in
-    rw (text .page-text .ensures, room (start .args .groups) (start .pre .1 .0 .0)) (start .pre)
+    let start = text .before .before .before .before in
+    rw (text .page-text .ensures .1, room (start .args .groups) (start .pre .1 .0 .0)) (start .pre)
 
 same-length : tie.Need-same-length
 same-length c = search needs
@@ -36,8 +36,8 @@ returns : tie.Need-returns
 returns c =
     let packed = c .before .before .before in
     let text = packed .before .before .before in
-    let a = text .before .before .before .args in
-    packed .write-packed .ensures ∙ ap (λ (digits : List ℕ). withSending (sendingFrom (a .page .identity) (a .page .kind) digits) (a .slot) (a .words .now)) (text .page-text .ensures)
+    let a = text .before .before .before .before .args in
+    packed .write-packed .ensures ∙ ap (λ (digits : List ℕ). withSending (sendingFrom (a .page .identity) (a .page .kind) digits) (a .slot) (a .words .now)) (text .page-text .ensures .1)
 
 pub write-page-spec : {M : Type 1} → statement M
 write-page-spec =

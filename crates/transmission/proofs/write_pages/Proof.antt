@@ -6,6 +6,7 @@ use borrow.Author.Needs.{needs}
 use denote.Ref.{now}
 use lib.ListN.{length, getD}
 use Rattle.base.proofs.ListLaws.{tab-length}
+use Rattle.job.specs.Submission.{Submission, withBook}
 use Rattle.job.specs.Pages.{noPage}
 use Rattle.job.proofs.Accepted.{accepted-job}
 use Rattle.transmission.specs.Sending.{sendingOf, sendingsOf, sendingAt}
@@ -17,34 +18,38 @@ use Rattle.transmission.proofs.write_pages.Statement.{statement}
 use Rattle.transmission.proofs.write_pages.Tie as tie
 
 abbrev Inv-loop : tie.InvT-loop
-Inv-loop job n groups places words₀ pages i₀ words i = (n ≤ 48) × (i ≤ n) × (words ≡ withSendings (sendingsOf job) i words₀)
+Inv-loop job book n groups places words₀ pages i₀ words i = (n ≤ 48) × (i ≤ n) × (words ≡ withSendings (sendingsOf (withBook job book)) i words₀)
 
 abbrev μ-loop : tie.MeasureT-loop
-μ-loop job n groups places words₀ pages i₀ words i = n - i
+μ-loop job book n groups places words₀ pages i₀ words i = n - i
+
+-- the job and its book
+abbrev submitted : tie.Start Inv-loop μ-loop → Submission
+submitted from = withBook (from .args .job .now) (from .args .book .now)
 
 -- the words keep their number
-room : (at : tie.At-loop Inv-loop μ-loop) → length (at .loop .words) ≡ length (at .before .before .before .before .before .before .before .before .args .words .now)
+room : (at : tie.At-loop Inv-loop μ-loop) → length (at .loop .words) ≡ length (at .before .before .before .before .before .before .before .before .before .args .words .now)
 room at =
-    let from = at .before .before .before .before .before .before .before .before in
+    let from = at .before .before .before .before .before .before .before .before .before in
     ap length (at .loop .inv .2)
-    ∙ with-length (sendingsOf (from .args .job .now)) _ (at .loop .i)
+    ∙ with-length (sendingsOf (submitted from)) _ (at .loop .i)
     ∙ ap length (at .before .before .before .write-blank .ensures)
     ∙ tab-length blankAt (length (from .args .words .now))
 
 -- page i is sent as sending i
 sent-as : (c : tie.In-loop Inv-loop μ-loop)
-    → sendingOf (c .before .before .before .before .before .before .before .before .before .args .job .now) (getD (c .before .before .before .before .before .before .before .before .before .args .t2 .pages) (c .before .loop .i) noPage)
-    ≡ sendingAt (sendingsOf (c .before .before .before .before .before .before .before .before .before .args .job .now)) (c .before .loop .i)
+    → sendingOf (submitted (c .before .before .before .before .before .before .before .before .before .before)) (getD (c .before .before .before .before .before .before .before .before .before .before .args .t3 .pages) (c .before .loop .i) noPage)
+    ≡ sendingAt (sendingsOf (submitted (c .before .before .before .before .before .before .before .before .before .before))) (c .before .loop .i)
 sent-as c =
-    let from = c .before .before .before .before .before .before .before .before .before in
-    page-sending (from .args .job .now) (from .args .n) (from .pre .1 .0) (from .pre .0) (c .before .loop .i) (omega arith)
+    let from = c .before .before .before .before .before .before .before .before .before .before in
+    page-sending (submitted from) (from .args .n) (from .pre .1 .0) (from .pre .0) (c .before .loop .i) (omega arith)
 
 write-blank-requires : tie.Need-write-blank-requires Inv-loop μ-loop
 write-blank-requires c κs = search needs
 
 loop-holds : tie.Need-loop-holds Inv-loop μ-loop
 unfolding withSendings
-loop-holds c = (accepted-job (c .before .before .before .before .before .before .before .args .job .now) (c .before .before .before .before .before .before .before .args .n) (c .before .before .before .before .before .before .before .pre .1 .0) .most, omega arith, refl)
+loop-holds c = (accepted-job (submitted (c .before .before .before .before .before .before .before .before)) (c .before .before .before .before .before .before .before .before .args .n) (c .before .before .before .before .before .before .before .before .pre .1 .0) .most, omega arith, refl)
 
 mul-write-page : tie.Need-mul-write-page Inv-loop μ-loop
 mul-write-page c = search needs
@@ -58,8 +63,8 @@ mul-write-page-2 c = search needs
 shared-slice-read-write-page : tie.Need-shared-slice-read-write-page Inv-loop μ-loop
 shared-slice-read-write-page c =
     let at = c .before .before .before in
-    let from = at .before .before .before .before .before .before .before .before in
-    in-groups (from .args .job .now) (from .args .n) (from .pre .1 .0) (from .pre .1 .1) (at .loop .i) (omega arith)
+    let from = at .before .before .before .before .before .before .before .before .before in
+    in-groups (submitted from) (from .args .n) (from .pre .1 .0) (from .pre .1 .1) (at .loop .i) (omega arith)
 
 element-copy-out-write-page-2 : tie.Need-element-copy-out-write-page-2 Inv-loop μ-loop
 element-copy-out-write-page-2 c = search needs
@@ -70,8 +75,8 @@ mul-write-page-3 c = search needs
 write-page-requires : tie.Need-write-page-requires Inv-loop μ-loop
 write-page-requires c κs =
     let at = c .before .before .before .before .before in
-    let from = at .before .before .before .before .before .before .before .before in
-    let s = from .args .job .now in
+    let from = at .before .before .before .before .before .before .before .before .before in
+    let s = submitted from in
     let n = from .args .n in
     let i = at .loop .i in
     let h : i < n = omega arith in
@@ -90,11 +95,11 @@ loop-less c = search needs
 loop-again : tie.Need-loop-again Inv-loop μ-loop
 loop-again c =
     let at = c .before .before .before .before .before .before .before .before in
-    let from = at .before .before .before .before .before .before .before .before in
+    let from = at .before .before .before .before .before .before .before .before .before in
     let h : at .loop .i < from .args .n = c .before .before .before .before .before .before .before .loop-test .taken in (
       at .loop .inv .0,
       omega (arith, h),
-      page-more (from .args .job .now) (from .args .n) (from .pre .1 .0) (from .pre .1 .1) (at .loop .i) h _ (sent-as (c .before .before .before .before .before .before .before)) (at .loop .inv .2) (c .before .before .write-page .ensures),
+      page-more (submitted from) (from .args .n) (from .pre .1 .0) (from .pre .1 .1) (at .loop .i) h _ (sent-as (c .before .before .before .before .before .before .before)) (at .loop .inv .2) (c .before .before .write-page .ensures),
     )
 
 same-length : tie.Need-same-length Inv-loop μ-loop
@@ -103,8 +108,8 @@ same-length c = room (c .before)
 returns : tie.Need-returns Inv-loop μ-loop
 returns c =
     let at = c .before in
-    let from = at .before .before .before .before .before .before .before .before in
-    let s = from .args .job .now in
+    let from = at .before .before .before .before .before .before .before .before .before in
+    let s = submitted from in
     let a = accepted-sendings s (from .args .n) (from .pre .1 .0) in
     let e : at .loop .i ≡ length (sendingsOf s) = omega (arith, sendings-count s (from .args .n) (from .pre .1 .0)) in
     at .loop .inv .2 ∙ rw (e, at .before .before .before .write-blank .ensures, from .pre .1 .1 .exact) (written (sendingsOf s) (sendings-placed a))
