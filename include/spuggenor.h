@@ -13,16 +13,16 @@
  * A number of 0 says that nothing is declined; the others are the CARD_REFUSED_ below. A declined call leaves every lent buffer and
  * state as it was, and its counts are zero. In a lent buffer what stands behind the last element written keeps its value.
  *
- * docs/PROGRAMS.md has the forms of a page line and of a listing. */
+ * docs/PROGRAMS.md has the forms of a page line, of a phrase book and of a listing. */
 #ifndef SPUGGENOR_H
 #define SPUGGENOR_H
 
 #include <stddef.h>
 #include <stdint.h>
 
-/* 2.1.0, as 10000 * first + 100 * second + third. The first goes up where a caller has to change or only to be compiled again, as when
+/* 3.0.0, as 10000 * first + 100 * second + third. The first goes up where a caller has to change or only to be compiled again, as when
  * a struct grows; the second where something is added. The archive and the header of one commit belong together. */
-#define SPUGGENOR_VERSION 20100
+#define SPUGGENOR_VERSION 30000
 
 #ifdef __cplusplus
 extern "C" {
@@ -37,29 +37,34 @@ extern "C" {
 #define CARD_ASSERT(fact) extern char card_assert[(fact) ? 1 : -1]
 #endif
 
-/* Sizes that suffice for every job and every listing. */
+/* Sizes that suffice for every job, every phrase book and every listing. */
 #define CARD_PAGES 48               /* pages of a job, so address slots */
+#define CARD_PHRASES 100            /* phrases of a book */
+#define CARD_BOOK_BYTES 48100       /* bytes of a book: 481 a phrase */
 #define CARD_WORDS 5118             /* words of a transmission: 18 + 17 * 300 */
 #define CARD_PREAMBLE_WORDS 18      /* words in front of a transmission's batches */
 #define CARD_LISTING_BYTES 46062    /* bytes of a transmission's listing: 9 a word */
 #define CARD_LINES_BYTES 48000      /* bytes of the page lines of 300 batches */
 #define CARD_MESSAGE_WORDS 4032     /* message codewords of a job */
 
-/* Why work is declined, and the place that comes with the number. A job's own numbers, 9 the last of them, stand here first, a
- * line's in the order of their rank. The first faulty line decides, and in it the first of 1, 2, 3, 4, 25, then 12, 13 or 14, then 6, 7;
- * but a 49th line is 8 whatever it holds; then 9, then 10. Of a listing the first line that gives 21 or 23, then the first 22, then
- * 10; of words 21, 23, 22, 10. (The programs have one number more, 24.)
+/* Why work is declined, and the place that comes with the number. A job's own numbers, 9 the last of them, stand here first: its
+ * book's, then a line's in the order of their rank. A malformed book is 19, whatever the job holds. Then the first faulty line decides,
+ * and in it the first of 1, 2, 3, 4, 25, then 12, 13, 14 or 18, then 6, 7; but a 49th line is 8 whatever it holds; then 9, then 10. Of a
+ * listing the first line that gives 21 or 23, then the first 22, then 10; of words 21, 23, 22, 10. (The programs have one number more,
+ * 24.)
  *
  * A call that takes a job also answers a position: with number 6 that of the first bad character of the text, counted in characters
  * from 1; 0 with every other number and where nothing is declined. */
+#define CARD_REFUSED_BOOK 19                /* line of the book: the first that is not written as a phrase, or the 101st */
 #define CARD_REFUSED_LINE_FORM 1            /* line: it is not written as a page line */
 #define CARD_REFUSED_IDENTITY_TOO_LARGE 2   /* line: over 1FFFFF */
 #define CARD_REFUSED_IDENTITY_RESERVED 3    /* line: 1EA270 to 1EA277 or 1F3480 to 1F3487 */
-#define CARD_REFUSED_KIND 4                 /* line: none of 0 to 7 */
+#define CARD_REFUSED_KIND 4                 /* line: none of 0 to 7, nor 9 with a book */
 #define CARD_REFUSED_PARTIAL_GROUP 25       /* line: kind 6 or 7 has digits that make no whole groups of five */
 #define CARD_REFUSED_TONE_WITH_TEXT 12      /* line: kind 0 to 3 has a text */
 #define CARD_REFUSED_NO_TEXT 13             /* line: kind 4 to 7 has none */
 #define CARD_REFUSED_TEXT_TOO_LONG 14       /* line: over 60 characters for kind 4, over 240 for kind 5, over 84 groups for kinds 6 and 7 */
+#define CARD_REFUSED_NO_PHRASE 18           /* line: kind 9 has no text, or one that is not the two-digit number of a phrase in the book */
 #define CARD_REFUSED_CHARACTER 6            /* line, and a position: a character that the kind does not have */
 #define CARD_REFUSED_SPACE_AT_END 7         /* line: a numeric text ends in a space */
 #define CARD_REFUSED_TOO_MANY_PAGES 8       /* 49: a 49th line */
@@ -89,7 +94,10 @@ struct card_word card_correct(uint32_t word);
  * times, a refused one more. */
 struct card_word card_correct_slowly(uint32_t word);
 
-/* ---- a job as a whole. A job is its page lines, up to CARD_PAGES of them. */
+/* ---- a job as a whole. A job is its page lines, up to CARD_PAGES of them. With it goes a phrase book, or none where book_length is 0:
+ * up to CARD_PHRASES lines, each the text of an alphanumeric page (kind 5) as a page line has it, and a newline. A page line of kind 9
+ * has a phrase's number for its text, two decimal digits, 00 the first; it is sent as a page of kind 5 with the phrase for its text, and
+ * read back as one. Job and book may overlap each other. */
 
 struct card_report {
     size_t place;
@@ -103,6 +111,7 @@ struct card_report {
  * address, in job order, over the front of slots. The job's own numbers, then 10 where words or slots is too short. CARD_WORDS words
  * and CARD_PAGES slots suffice. */
 struct card_report card_send(const uint8_t *job, size_t job_length,
+                             const uint8_t *book, size_t book_length,
                              uint32_t *words, size_t words_length,
                              uint32_t *slots, size_t slots_length);
 
@@ -114,7 +123,9 @@ struct card_bytes {
 };
 
 /* A job's listing, over the front of out. The job's own numbers, then 10 where out is too short. CARD_LISTING_BYTES suffice. */
-struct card_bytes card_list(const uint8_t *job, size_t job_length, uint8_t *out, size_t out_length);
+struct card_bytes card_list(const uint8_t *job, size_t job_length,
+                            const uint8_t *book, size_t book_length,
+                            uint8_t *out, size_t out_length);
 
 /* ---- reading */
 
@@ -187,7 +198,9 @@ struct card_refusal {
 };
 
 /* Makes the state from which the steps of a job start. What the state held before does not matter. The job's own numbers. */
-struct card_refusal card_start(const uint8_t *job, size_t job_length, struct card_sender *state);
+struct card_refusal card_start(const uint8_t *job, size_t job_length,
+                               const uint8_t *book, size_t book_length,
+                               struct card_sender *state);
 
 struct card_step_answer {
     uint32_t word;      /* the next word; 0 where there is none */

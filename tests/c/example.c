@@ -1,4 +1,5 @@
-/* A job declined, then one sent whole, sent again word by word, and read back with some wrong bits; one word corrected by both engines.
+/* Jobs declined, then one sent whole, with a phrase book, sent again word by word, and read back with some wrong bits; one word corrected
+ * by both engines.
  *
  * Build and run it in the repository's folder, once `rt staticlib card` has made the archive:
  *     gcc -Wall -Wextra tests/c/example.c -Iinclude target/staticlib/libcard.a -o target/example && target/example
@@ -11,11 +12,14 @@ static uint32_t words[CARD_WORDS], slots[CARD_PAGES];
 static uint8_t lines[CARD_LINES_BYTES];
 static struct card_sender state;
 
-/* "12" to pager 000009, "HELLO" to pager 000010, a tone with function 2 to pager 00000F */
-static const char job[] = "000009 4 3132\n000010 5 48454C4C4F\n00000F 2\n";
+/* "12" to pager 000009, "HELLO" to pager 000010, a tone with function 2 to pager 00000F, the phrase 01 to pager 000014 */
+static const char job[] = "000009 4 3132\n000010 5 48454C4C4F\n00000F 2\n000014 9 01\n";
 
 /* the same with a mistake: the third character of the first text is no numeric one */
-static const char mistaken[] = "000009 4 313241\n000010 5 48454C4C4F\n00000F 2\n";
+static const char mistaken[] = "000009 4 313241\n000010 5 48454C4C4F\n00000F 2\n000014 9 01\n";
+
+/* two phrases: "OK" and "COME" */
+static const char book[] = "4F4B\n434F4D45\n";
 
 /* whether work is declined; says why, with the position where the number has one */
 static int refused(uint32_t number, size_t place, size_t position) {
@@ -40,18 +44,23 @@ static int corrected(uint32_t word) {
 }
 
 int main(void) {
-    const uint8_t *text = (const uint8_t *)job;
-    size_t length = strlen(job);
+    const uint8_t *text = (const uint8_t *)job, *phrases = (const uint8_t *)book;
+    size_t length = strlen(job), phrases_length = strlen(book);
 
-    struct card_report sent = card_send((const uint8_t *)mistaken, strlen(mistaken), words, CARD_WORDS, slots, CARD_PAGES);
+    struct card_report sent =
+        card_send((const uint8_t *)mistaken, strlen(mistaken), phrases, phrases_length, words, CARD_WORDS, slots, CARD_PAGES);
     if (!refused(sent.number, sent.place, sent.position))
         return 1;
-    sent = card_send(text, length, words, CARD_WORDS, slots, CARD_PAGES);
+    /* without a book there is no kind 9 */
+    sent = card_send(text, length, NULL, 0, words, CARD_WORDS, slots, CARD_PAGES);
+    if (!refused(sent.number, sent.place, sent.position))
+        return 1;
+    sent = card_send(text, length, phrases, phrases_length, words, CARD_WORDS, slots, CARD_PAGES);
     if (refused(sent.number, sent.place, sent.position))
         return 1;
-    printf("%u batches, %u words, address slots %u %u %u\n", sent.batches, sent.words, slots[0], slots[1], slots[2]);
+    printf("%u batches, %u words, address slots %u %u %u %u\n", sent.batches, sent.words, slots[0], slots[1], slots[2], slots[3]);
 
-    struct card_refusal refusal = card_start(text, length, &state);
+    struct card_refusal refusal = card_start(text, length, phrases, phrases_length, &state);
     if (refused(refusal.number, refusal.place, refusal.position))
         return 1;
     uint32_t steps = 0;

@@ -27,13 +27,15 @@ CARD_ASSERT(sizeof(struct card_refusal) == 24 && offsetof(struct card_refusal, p
 static const uint8_t job[] = "000009 4 3132\n00000F 4 313233343536\n";
 /* line 2 has its first bad character at position 3 */
 static const uint8_t bad_character[] = "000009 0\n000009 4 31322A2A\n";
+/* the phrase 01, "A", and its book, of which the first 4 bytes alone break off in line 2 */
+static const uint8_t phrase[] = "000000 9 01\n", book[] = "42\n41\n";
 static struct card_sender state, kept;
 static uint32_t words[CARD_WORDS], slots[CARD_PAGES + 1];
 static uint8_t out[CARD_LISTING_BYTES];
 
 /* a job started, and one value of its state set: what the next step answers, and whether the state is as it was where it is declined */
 #define STEP_WITH(field, value, expected) do { \
-        EXPECT(card_start(job, sizeof job - 1, &state).number == 0); \
+        EXPECT(card_start(job, sizeof job - 1, NULL, 0, &state).number == 0); \
         state.field = (value); memcpy(&kept, &state, sizeof state); \
         EXPECT(card_step(&state).number == (expected)); \
         EXPECT((expected) == 0 || memcmp(&kept, &state, sizeof state) == 0); } while (0)
@@ -41,7 +43,7 @@ static uint8_t out[CARD_LISTING_BYTES];
 /* every field of the state that a start gives; a declined start leaves it as it was */
 static void start(void) {
     memset(&state, 0xFF, sizeof state);
-    struct card_refusal r = card_start(job, sizeof job - 1, &state);
+    struct card_refusal r = card_start(job, sizeof job - 1, NULL, 0, &state);
     EXPECT(r.place == 0 && r.position == 0 && r.number == 0);
     EXPECT(state.cursor.slot == 0 && state.cursor.page == 0 && state.cursor.word == 0 && state.cursor.preamble == 18);
     EXPECT(state.cursor.synced == 0 && state.cursor.running == 0 && state.cursor.message == 0);
@@ -51,8 +53,25 @@ static void start(void) {
     EXPECT(state.pages.frames[0] == 1 && state.pages.frames[1] == 7 && state.pages.frames[47] == 0);
     EXPECT(state.sent[0] == 0 && state.sent[47] == 0 && state.words[0] == 0xC2199DEA && state.words[3] == 0 && state.words[4031] == 0);
     memcpy(&kept, &state, sizeof state);
-    r = card_start(bad_character, sizeof bad_character - 1, &state);
+    r = card_start(bad_character, sizeof bad_character - 1, NULL, 0, &state);
     EXPECT(r.place == 2 && r.position == 3 && r.number == 6 && memcmp(&kept, &state, sizeof state) == 0);
+}
+
+/* job and book, each with its length, in every call that takes them */
+static void with_book(void) {
+    struct card_report s = card_send(phrase, sizeof phrase - 1, book, sizeof book - 1, words, 35, slots, 1);
+    EXPECT(s.number == 0 && s.batches == 1 && s.words == 35 && slots[0] == 0 && words[19] == 0x00001DA5 && words[20] >> 11 == 0x182000);
+    struct card_bytes l = card_list(phrase, sizeof phrase - 1, book, sizeof book - 1, out, sizeof out);
+    EXPECT(l.number == 0 && l.bytes == 315 && memcmp(out + 171, "00001DA5", 8) == 0);
+    struct card_refusal r = card_start(phrase, sizeof phrase - 1, book, sizeof book - 1, &state);
+    EXPECT(r.number == 0 && state.pages.count == 1 && state.pages.addresses[0] == 0x00001DA5 && state.words[0] == words[20]);
+    s = card_send(phrase, sizeof phrase - 1, book, 4, words, 35, slots, 1);
+    EXPECT(s.place == 2 && s.position == 0 && s.number == 19 && s.batches == 0 && s.words == 0);
+    l = card_list(phrase, sizeof phrase - 1, book, 4, out, sizeof out);
+    EXPECT(l.place == 2 && l.position == 0 && l.number == 19 && l.bytes == 0);
+    memcpy(&kept, &state, sizeof state);
+    r = card_start(phrase, sizeof phrase - 1, book, 4, &state);
+    EXPECT(r.place == 2 && r.position == 0 && r.number == 19 && memcmp(&kept, &state, sizeof state) == 0);
 }
 
 /* number 11 at each limit */
@@ -67,7 +86,7 @@ static void limits(void) {
     STEP_WITH(pages.starts[1], 4031, 11);
     STEP_WITH(pages.lengths[0], 4032, 0);
     STEP_WITH(pages.lengths[0], 4033, 11);
-    card_start(job, sizeof job - 1, &state);
+    card_start(job, sizeof job - 1, NULL, 0, &state);
     state.cursor.running = 255; state.cursor.page = 1; state.cursor.word = 1; state.cursor.preamble = 0; state.cursor.synced = 2;
     struct card_step_answer a = card_step(&state);
     EXPECT(a.number == 0 && a.done == 0 && a.word == state.words[2] && state.cursor.running == 0 && state.cursor.message == 1 && state.cursor.slot == 1);
@@ -78,7 +97,7 @@ static void limits(void) {
 /* the flag message makes an open slot the pause: a page with message codewords waits for the next one, a tone does not */
 static void pause_slot(void) {
     for (uint16_t length = 0; length < 2; length++) {
-        card_start(job, sizeof job - 1, &state);
+        card_start(job, sizeof job - 1, NULL, 0, &state);
         state.cursor.preamble = 0; state.cursor.slot = 2; state.cursor.message = 255; state.pages.lengths[0] = length;
         struct card_step_answer a = card_step(&state);
         EXPECT(a.word == (length ? 0x7A89C197 : 0x000026EC) && (state.sent[0] == 0) == (length != 0) && state.cursor.message == 0);
@@ -101,16 +120,16 @@ static void single_words(const struct engine *by) {
 
 static void sending(void) {
     slots[2] = 77; words[35] = 78;
-    struct card_report s = card_send(job, 14, words, 35, slots, 1);
+    struct card_report s = card_send(job, 14, NULL, 0, words, 35, slots, 1);
     EXPECT(s.place == 0 && s.position == 0 && s.number == 0 && s.batches == 1 && s.words == 35);
     EXPECT(slots[0] == 2 && words[21] == 0x000026EC && words[35] == 78);
-    s = card_send(job, 14, words, 34, slots, 1);
+    s = card_send(job, 14, NULL, 0, words, 34, slots, 1);
     EXPECT(s.place == 0 && s.position == 0 && s.number == 10 && s.batches == 0 && s.words == 0);
-    s = card_send(bad_character, sizeof bad_character - 1, words, 35, slots, 2);
+    s = card_send(bad_character, sizeof bad_character - 1, NULL, 0, words, 35, slots, 2);
     EXPECT(s.place == 2 && s.position == 3 && s.number == 6 && s.batches == 0 && s.words == 0);
-    struct card_bytes l = card_list(bad_character, sizeof bad_character - 1, out, sizeof out);
+    struct card_bytes l = card_list(bad_character, sizeof bad_character - 1, NULL, 0, out, sizeof out);
     EXPECT(l.place == 2 && l.position == 3 && l.number == 6 && l.bytes == 0);
-    l = card_list(job, 14, out, sizeof out);
+    l = card_list(job, 14, NULL, 0, out, sizeof out);
     EXPECT(l.place == 0 && l.position == 0 && l.number == 0 && l.bytes == 315);
 }
 
@@ -149,6 +168,7 @@ static void changed_bits(const struct engine *by) {
 
 int main(void) {
     start();
+    with_book();
     limits();
     pause_slot();
     for (int i = 0; i < 2; i++) {

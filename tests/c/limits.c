@@ -4,8 +4,9 @@
  *     gcc -Wall -Wextra tests/c/limits.c -Iinclude target/staticlib/libcard.a -o target/limits && target/limits
  * It prints each difference, and ends with status 0 where there is none.
  *
- * Jobs reach CARD_PAGES and CARD_MESSAGE_WORDS, listings reach CARD_LISTING_BYTES and CARD_LINES_BYTES. No job that we know reaches
- * CARD_WORDS, and so CARD_LISTING_BYTES on sending: they are for 300 batches, and the longest transmission here has 289. */
+ * Jobs reach CARD_PAGES and CARD_MESSAGE_WORDS, books CARD_PHRASES and CARD_BOOK_BYTES, listings CARD_LISTING_BYTES and
+ * CARD_LINES_BYTES. No job that we know reaches CARD_WORDS, and so CARD_LISTING_BYTES on sending: they are for 300 batches, and the
+ * longest transmission here has 289. */
 #include "engines.h"
 #include "spuggenor.h"
 #include <stdio.h>
@@ -16,7 +17,7 @@ static int wrong;
 
 /* every buffer has one element more than the header says, which nothing may write */
 #define UNTOUCHED 0x5A
-static uint8_t job[(CARD_PAGES + 1) * 490], listing[CARD_LISTING_BYTES + 1], lines[CARD_LINES_BYTES + 1];
+static uint8_t job[(CARD_PAGES + 1) * 490], book[(CARD_PHRASES + 1) * 490], listing[CARD_LISTING_BYTES + 1], lines[CARD_LINES_BYTES + 1];
 static uint32_t words[CARD_WORDS + 1], again[CARD_WORDS + 1], slots[CARD_PAGES + 1];
 static struct card_sender state, kept;
 
@@ -26,16 +27,25 @@ static size_t put(uint8_t *to, size_t at, const char *text) {
     return at + length;
 }
 
-/* so many pages with this head and these units for a text, `last` of them in the last page and `others` in the rest: the job's bytes */
-static size_t pages(const char *head, const char *unit, int count, int others, int last) {
+/* so many lines with this head and these units for a text, `last` of them in the last line and `others` in the rest: their bytes */
+static size_t put_lines(uint8_t *to, const char *head, const char *unit, int count, int others, int last) {
     size_t at = 0;
-    for (int page = 1; page <= count; page++) {
-        at = put(job, at, head);
-        for (int i = 0; i < (page == count ? last : others); i++)
-            at = put(job, at, unit);
-        at = put(job, at, "\n");
+    for (int line = 1; line <= count; line++) {
+        at = put(to, at, head);
+        for (int i = 0; i < (line == count ? last : others); i++)
+            at = put(to, at, unit);
+        at = put(to, at, "\n");
     }
     return at;
+}
+
+static size_t pages(const char *head, const char *unit, int count, int others, int last) {
+    return put_lines(job, head, unit, count, others, last);
+}
+
+/* so many phrases, the last of so many characters and all others of 240: the book's bytes */
+static size_t phrases(int count, int last) {
+    return put_lines(book, "", "7A", count, 240, last);
 }
 
 /* 300 batches of one numeric page, whose 4,799 message words are five zeros each, behind a preamble */
@@ -65,31 +75,31 @@ static size_t list_words(void) {
 static void longest_transmission(void) {
     size_t length = pages("000007 5 ", "7A", CARD_PAGES, 228, 240);
     memset(slots, UNTOUCHED, sizeof slots);
-    struct card_report s = card_send(job, length, words, CARD_WORDS, slots, CARD_PAGES);
+    struct card_report s = card_send(job, length, NULL, 0, words, CARD_WORDS, slots, CARD_PAGES);
     EXPECT(s.number == 0 && s.batches == 289 && s.words == 18 + 17 * 289 && slots[CARD_PAGES - 1] == 14 + 96 * 47);
     EXPECT(slots[CARD_PAGES] == 0x5A5A5A5A && words[CARD_WORDS] == 0);
-    EXPECT(card_send(job, length, words, s.words, slots, CARD_PAGES).words == s.words);
-    EXPECT(card_send(job, length, words, s.words - 1, slots, CARD_PAGES).number == CARD_REFUSED_BUFFER_TOO_SHORT);
-    EXPECT(card_send(job, length, words, CARD_WORDS, slots, CARD_PAGES - 1).number == CARD_REFUSED_BUFFER_TOO_SHORT);
-    struct card_bytes l = card_list(job, length, listing, CARD_LISTING_BYTES);
+    EXPECT(card_send(job, length, NULL, 0, words, s.words, slots, CARD_PAGES).words == s.words);
+    EXPECT(card_send(job, length, NULL, 0, words, s.words - 1, slots, CARD_PAGES).number == CARD_REFUSED_BUFFER_TOO_SHORT);
+    EXPECT(card_send(job, length, NULL, 0, words, CARD_WORDS, slots, CARD_PAGES - 1).number == CARD_REFUSED_BUFFER_TOO_SHORT);
+    struct card_bytes l = card_list(job, length, NULL, 0, listing, CARD_LISTING_BYTES);
     EXPECT(l.number == 0 && l.bytes == 9 * (size_t)s.words && listing[CARD_LISTING_BYTES] == 0);
-    EXPECT(card_list(job, length, listing, l.bytes).bytes == l.bytes);
-    EXPECT(card_list(job, length, listing, l.bytes - 1).number == CARD_REFUSED_BUFFER_TOO_SHORT);
+    EXPECT(card_list(job, length, NULL, 0, listing, l.bytes).bytes == l.bytes);
+    EXPECT(card_list(job, length, NULL, 0, listing, l.bytes - 1).number == CARD_REFUSED_BUFFER_TOO_SHORT);
 }
 
 /* a job with the most message codewords, its pages all alike: a state is full to its last word, and the steps give what is sent; a page
- * more is too many */
+ * more is too many. The longest book goes with it. */
 static void most_message_words(const char *head, const char *unit, int units) {
-    size_t length = pages(head, unit, CARD_PAGES, units, units);
-    struct card_report s = card_send(job, length, words, CARD_WORDS, slots, CARD_PAGES);
-    EXPECT(s.number == 0 && card_start(job, length, &state).number == 0);
+    size_t length = pages(head, unit, CARD_PAGES, units, units), book_length = phrases(CARD_PHRASES, 240);
+    struct card_report s = card_send(job, length, book, book_length, words, CARD_WORDS, slots, CARD_PAGES);
+    EXPECT(s.number == 0 && card_start(job, length, book, book_length, &state).number == 0);
     EXPECT(state.pages.count == CARD_PAGES && state.pages.starts[CARD_PAGES - 1] + state.pages.lengths[CARD_PAGES - 1] == CARD_MESSAGE_WORDS);
     EXPECT(state.words[CARD_MESSAGE_WORDS - 1] >> 31 == 1);
     for (uint32_t i = 0; i < s.words; i++)
         again[i] = card_step(&state).word;
     EXPECT(memcmp(again, words, sizeof *words * s.words) == 0 && card_step(&state).done == 1);
     length = pages(head, unit, CARD_PAGES + 1, units, units);
-    struct card_refusal r = card_start(job, length, &state);
+    struct card_refusal r = card_start(job, length, book, book_length, &state);
     EXPECT(r.number == CARD_REFUSED_TOO_MANY_PAGES && r.place == 49 && r.position == 0);
 }
 
@@ -109,17 +119,22 @@ static void longest_reading(const struct engine *by) {
     EXPECT(d.number == CARD_REFUSED_BATCHES_FORM && d.place == 9 + 9 * 300);
 }
 
-/* each call that takes a job answers this number, place and position */
-static void answered(const uint8_t *text, size_t length, uint32_t number, size_t place, size_t position) {
-    struct card_report s = card_send(text, length, words, CARD_WORDS, slots, CARD_PAGES);
-    struct card_bytes l = card_list(text, length, listing, CARD_LISTING_BYTES);
-    struct card_refusal r = card_start(text, length, &state);
+/* each call that takes a job with this book answers this number, place and position */
+static void answered_with(const uint8_t *with, size_t with_length,
+                          const uint8_t *text, size_t length, uint32_t number, size_t place, size_t position) {
+    struct card_report s = card_send(text, length, with, with_length, words, CARD_WORDS, slots, CARD_PAGES);
+    struct card_bytes l = card_list(text, length, with, with_length, listing, CARD_LISTING_BYTES);
+    struct card_refusal r = card_start(text, length, with, with_length, &state);
     int same = s.number == number && s.place == place && s.position == position && l.number == number && l.place == place
         && l.position == position && r.number == number && r.place == place && r.position == position;
     if (!same) {
         printf("not %u %u %u:\n%.*s", number, (unsigned)place, (unsigned)position, (int)length, (const char *)text);
         wrong = 1;
     }
+}
+
+static void answered(const uint8_t *text, size_t length, uint32_t number, size_t place, size_t position) {
+    answered_with(NULL, 0, text, length, number, place, position);
 }
 
 struct declined {
@@ -139,6 +154,9 @@ static const struct declined jobs[] = {
     {"200000 6 123\n", CARD_REFUSED_IDENTITY_TOO_LARGE, 1},
     {"200000 4 123\n", CARD_REFUSED_LINE_FORM, 1},
     {"1EA270 7 123\n", CARD_REFUSED_IDENTITY_RESERVED, 1},
+    {"000009 0\n000009 9 00\n", CARD_REFUSED_KIND, 2},
+    {"000009 9\n", CARD_REFUSED_KIND, 1},
+    {"000009 9 7\n", CARD_REFUSED_LINE_FORM, 1},
     {"", CARD_REFUSED_EMPTY_JOB, 0},
 };
 
@@ -146,6 +164,78 @@ static const struct declined jobs[] = {
 static void declined_jobs(void) {
     for (size_t i = 0; i < sizeof jobs / sizeof *jobs; i++)
         answered((const uint8_t *)jobs[i].job, strlen(jobs[i].job), jobs[i].number, jobs[i].place, 0);
+}
+
+/* jobs with a book of three phrases */
+static const struct declined named[] = {
+    {"000009 9 00\n000009 9 02\n", 0, 0},
+    {"000009 9 00\n000009 9 03\n", CARD_REFUSED_NO_PHRASE, 2},
+    {"000009 9 99\n", CARD_REFUSED_NO_PHRASE, 1},
+    {"000009 9 0A\n", CARD_REFUSED_NO_PHRASE, 1},
+    {"000009 9 0002\n", CARD_REFUSED_NO_PHRASE, 1},
+    {"000009 9\n", CARD_REFUSED_NO_PHRASE, 1},
+    {"000009 9 7\n", CARD_REFUSED_LINE_FORM, 1},
+    {"000009 9 \n", CARD_REFUSED_LINE_FORM, 1},
+    {"000009 9 0a\n", CARD_REFUSED_LINE_FORM, 1},
+    {"200000 9\n", CARD_REFUSED_IDENTITY_TOO_LARGE, 1},
+    {"1EA270 9\n", CARD_REFUSED_IDENTITY_RESERVED, 1},
+    {"000009 8 00\n", CARD_REFUSED_KIND, 1},
+    {"", CARD_REFUSED_EMPTY_JOB, 0},
+};
+
+/* a book and the place of its number 19, 0 where it is written as it should be */
+struct book {
+    const char *text;
+    size_t place;
+};
+static const struct book books[] = {
+    {"41\n", 0},
+    {"7F\n01\n", 0},
+    {"\n", 1},
+    {"41", 1},
+    {"41\n4", 2},
+    {"41\n\n41\n", 2},
+    {"41\n414\n", 2},
+    {"4a\n", 1},
+    {"41 \n", 1},
+    {"00\n", 1},
+    {"41\n4103\n", 2},
+    {"04\n", 1},
+    {"80\n", 1},
+    {"FF\n\n", 1},
+};
+
+/* a good job, a faulty one and an empty one, with a book that is 19 at this place, or else is taken */
+static void booked(const uint8_t *with, size_t length, size_t place) {
+    static const struct declined some[] = {
+        {"000009 9 00\n", 0, 0}, {"000009 9 0\n", CARD_REFUSED_LINE_FORM, 1}, {"", CARD_REFUSED_EMPTY_JOB, 0}};
+    for (size_t i = 0; i < sizeof some / sizeof *some; i++) {
+        uint32_t number = place == 0 ? some[i].number : CARD_REFUSED_BOOK;
+        answered_with(with, length, (const uint8_t *)some[i].job, strlen(some[i].job), number, place == 0 ? some[i].place : place, 0);
+    }
+}
+
+/* phrases and books, and the longest book: its last phrase, and what is one too many */
+static void declined_phrases(void) {
+    const char *three = "41\n42\n43\n";
+    for (size_t i = 0; i < sizeof named / sizeof *named; i++) {
+        const struct declined *one = &named[i];
+        answered_with((const uint8_t *)three, strlen(three), (const uint8_t *)one->job, strlen(one->job), one->number, one->place, 0);
+    }
+    for (size_t i = 0; i < sizeof books / sizeof *books; i++)
+        booked((const uint8_t *)books[i].text, strlen(books[i].text), books[i].place);
+    size_t length = phrases(CARD_PHRASES, 240);
+    EXPECT(length == CARD_BOOK_BYTES);
+    booked(book, length, 0);
+    answered_with(book, length, (const uint8_t *)"000009 9 99\n", 12, 0, 0, 0);
+    booked(book, length - 1, CARD_PHRASES);
+    booked(book, phrases(CARD_PHRASES, 241), CARD_PHRASES);
+    booked(book, phrases(CARD_PHRASES, 0), CARD_PHRASES);
+    booked(book, phrases(CARD_PHRASES + 1, 1), CARD_PHRASES + 1);
+    booked(book, CARD_BOOK_BYTES + 1, CARD_PHRASES + 1);
+    length = phrases(CARD_PHRASES - 1, 240);
+    booked(book, length, 0);
+    answered_with(book, length, (const uint8_t *)"000009 9 99\n", 12, CARD_REFUSED_NO_PHRASE, 1, 0);
 }
 
 /* a page with so many characters, of a data page digits: bad ones at up to two positions (0 is none), the first one first, and perhaps
@@ -238,7 +328,7 @@ static void declined_words(const struct engine *by) {
     struct card_reading d = by->read_words(words + CARD_PREAMBLE_WORDS + 1, 17, lines, CARD_LINES_BYTES);
     EXPECT(d.number == CARD_REFUSED_NO_SYNC && d.place == 1);
     EXPECT(by->read_words(words, 17 * 301, lines, CARD_LINES_BYTES).number == CARD_REFUSED_TOO_MANY_BATCHES);
-    EXPECT(card_start((const uint8_t *)"000009 0\n", 9, &state).number == 0);
+    EXPECT(card_start((const uint8_t *)"000009 0\n", 9, NULL, 0, &state).number == 0);
     state.pages.count = CARD_PAGES + 1;
     EXPECT(card_step(&state).number == CARD_REFUSED_STATE);
 }
@@ -246,18 +336,22 @@ static void declined_words(const struct engine *by) {
 /* null with length 0 in each place: the same answers as a pointer to no elements gets */
 static void null_jobs(void) {
     const uint8_t *text = (const uint8_t *)"000009 4 3132\n";
-    EXPECT(card_send(NULL, 0, words, CARD_WORDS, slots, CARD_PAGES).number == CARD_REFUSED_EMPTY_JOB);
-    EXPECT(card_send(NULL, 0, NULL, 0, NULL, 0).number == CARD_REFUSED_EMPTY_JOB);
-    EXPECT(card_send(text, 14, NULL, 0, slots, CARD_PAGES).number == CARD_REFUSED_BUFFER_TOO_SHORT);
-    EXPECT(card_send(text, 14, words, CARD_WORDS, NULL, 0).number == CARD_REFUSED_BUFFER_TOO_SHORT);
-    EXPECT(card_send(text, 14, NULL, 0, NULL, 0).number == CARD_REFUSED_BUFFER_TOO_SHORT);
-    EXPECT(card_send(text, 13, NULL, 0, NULL, 0).number == CARD_REFUSED_LINE_FORM);
-    EXPECT(card_list(NULL, 0, listing, CARD_LISTING_BYTES).number == CARD_REFUSED_EMPTY_JOB);
-    EXPECT(card_list(NULL, 0, NULL, 0).number == CARD_REFUSED_EMPTY_JOB);
-    EXPECT(card_list(text, 14, NULL, 0).number == CARD_REFUSED_BUFFER_TOO_SHORT);
+    const uint8_t *half = (const uint8_t *)"4";
+    EXPECT(card_send(NULL, 0, NULL, 0, words, CARD_WORDS, slots, CARD_PAGES).number == CARD_REFUSED_EMPTY_JOB);
+    EXPECT(card_send(NULL, 0, NULL, 0, NULL, 0, NULL, 0).number == CARD_REFUSED_EMPTY_JOB);
+    EXPECT(card_send(NULL, 0, half, 1, NULL, 0, NULL, 0).number == CARD_REFUSED_BOOK);
+    EXPECT(card_send(text, 14, NULL, 0, NULL, 0, slots, CARD_PAGES).number == CARD_REFUSED_BUFFER_TOO_SHORT);
+    EXPECT(card_send(text, 14, NULL, 0, words, CARD_WORDS, NULL, 0).number == CARD_REFUSED_BUFFER_TOO_SHORT);
+    EXPECT(card_send(text, 14, NULL, 0, NULL, 0, NULL, 0).number == CARD_REFUSED_BUFFER_TOO_SHORT);
+    EXPECT(card_send(text, 13, NULL, 0, NULL, 0, NULL, 0).number == CARD_REFUSED_LINE_FORM);
+    EXPECT(card_list(NULL, 0, NULL, 0, listing, CARD_LISTING_BYTES).number == CARD_REFUSED_EMPTY_JOB);
+    EXPECT(card_list(NULL, 0, NULL, 0, NULL, 0).number == CARD_REFUSED_EMPTY_JOB);
+    EXPECT(card_list(NULL, 0, half, 1, NULL, 0).number == CARD_REFUSED_BOOK);
+    EXPECT(card_list(text, 14, NULL, 0, NULL, 0).number == CARD_REFUSED_BUFFER_TOO_SHORT);
     memset(&state, UNTOUCHED, sizeof state);
     memcpy(&kept, &state, sizeof state);
-    EXPECT(card_start(NULL, 0, &state).number == CARD_REFUSED_EMPTY_JOB && memcmp(&state, &kept, sizeof state) == 0);
+    EXPECT(card_start(NULL, 0, NULL, 0, &state).number == CARD_REFUSED_EMPTY_JOB && memcmp(&state, &kept, sizeof state) == 0);
+    EXPECT(card_start(NULL, 0, half, 1, &state).number == CARD_REFUSED_BOOK && memcmp(&state, &kept, sizeof state) == 0);
 }
 
 static void null_readings(const struct engine *by) {
@@ -283,7 +377,9 @@ int main(void) {
     longest_transmission();
     most_message_words("000007 5 ", "7A", 240);
     most_message_words("000007 6 ", "ABCDE", 84);
+    most_message_words("000007 9 99", "", 0);
     declined_jobs();
+    declined_phrases();
     declined_texts();
     null_jobs();
     for (int i = 0; i < 2; i++) {

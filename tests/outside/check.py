@@ -10,8 +10,9 @@ Each job is sent, its listing is made into sound, and multimon-ng, which knows n
 lines must be the job's pages, each with address, function and text, in the order in which their addresses go out. That order
 is worked out here, from the rule for the slots alone. The fixed jobs have every function in every frame, every bit of an
 address, the neighbours of the reserved addresses, every length of each kind of text, every character, every bit of a data page's
-group, messages that end just before, on and after the end of a batch, and pauses after a message in which messages and tones
-wait. The drawn jobs mix all of these. The first difference is printed with its job, and the exit status is then 1.
+group, every phrase of a book of 100 (R-6), messages that end just before, on and after the end of a batch, and pauses after a
+message in which messages and tones wait. The drawn jobs mix all of these. A job with phrases is sent with the book's file as the
+program's argument, any other without. The first difference is printed with its job, and the exit status is then 1.
 
 The sound: 22050 samples a second, 16 bits each with sign, low byte first. A one is a low level and a zero a high one (the
 other way round multimon-ng hears nothing). Every job is heard at 512 and at 1200 bits a second. After the listing come 96 bits
@@ -64,14 +65,15 @@ LOW = (-16000).to_bytes(2, "little", signed=True)
 HIGH = (16000).to_bytes(2, "little", signed=True)
 SYNC, IDLE = 0x7CD215D8, 0x7A89C197
 PREAMBLE_WORDS = 18
-TONES, NUMERIC, ALPHA, DATA = range(4), 4, 5, (6, 7)
-FUNCTIONS = {NUMERIC: 0, ALPHA: 3, 6: 1, 7: 2}
-SORTS = {NUMERIC: "numeric", ALPHA: "alphanumeric", 6: "data", 7: "data"}
+TONES, NUMERIC, ALPHA, DATA, PHRASE = range(4), 4, 5, (6, 7), 9
+FUNCTIONS = {NUMERIC: 0, ALPHA: 3, 6: 1, 7: 2, PHRASE: 3}
+SORTS = {NUMERIC: "numeric", ALPHA: "alphanumeric", 6: "data", 7: "data", PHRASE: "phrase"}
 SIGNS = b"0123456789.U -]["  # by their four bits, low bit first; the spare can't be sent
 DIGITS = SIGNS.replace(b".", b"")
 HEX = b"0123456789ABCDEF"
 PRINTABLE = bytes(range(32, 127))
 ALL_BYTES = bytes(c for c in range(1, 128) if c not in (3, 4))
+BOOK = [(b"%02d " % n + PRINTABLE * 3)[:1 + 239 * n // 99] for n in range(100)]  # 1 to 240 characters, no two phrases alike
 NAMES = dict(enumerate(
     "NUL SOH STX ETX EOT ENQ ACK BEL BS HT LF VT FF CR SO SI DLE DC1 DC2 DC3 DC4 NAK SYN ETB CAN EM SUB ESC FS GS RS US".split()))
 NAMES[127] = "DEL"
@@ -84,17 +86,22 @@ class Difference(Exception):
     pass
 
 
-# A page is (identity, kind, text), where a data page's text is its digits; a job is a list of pages.
+# A page is (identity, kind, text), where a data page's text is its digits and a phrase one of BOOK; a job is a list of pages.
+
+def digits(kind, text):
+    """A text as it is written in a page line."""
+    return text.decode() if kind in DATA else "%02d" % BOOK.index(text) if kind == PHRASE else text.hex().upper()
+
 
 def job_lines(job):
-    return "".join("%06X %X%s\n" % (i, k, " " + (t.decode() if k in DATA else t.hex().upper()) if t else "") for i, k, t in job)
+    return "".join("%06X %X%s\n" % (i, k, " " + digits(k, t) if t else "") for i, k, t in job)
 
 
 def message_words(page):
     _, kind, text = page
     if kind == NUMERIC:
         return -(-len(text) // 5)
-    if kind == ALPHA:
+    if kind in (ALPHA, PHRASE):
         return -(-7 * len(text) // 20)
     return len(text) // 5
 
@@ -118,7 +125,7 @@ def message_bits(page):
     _, kind, text = page
     if kind == NUMERIC:
         return "".join(format(SIGNS.index(c), "04b")[::-1] for c in text.ljust(5 * message_words(page)))
-    if kind == ALPHA:
+    if kind in (ALPHA, PHRASE):
         return "".join(format(c, "07b")[::-1] for c in text).ljust(20 * message_words(page), "0")
     return "".join(format(HEX.index(c), "04b") for c in text)
 
@@ -142,7 +149,11 @@ def is_ambiguous(page):
 
 
 def send(program, job):
-    done = subprocess.run([program], input=job_lines(job).encode(), stdout=subprocess.PIPE, stderr=subprocess.PIPE)
+    with tempfile.NamedTemporaryFile() as book:
+        book.write(b"".join(phrase.hex().upper().encode() + b"\n" for phrase in BOOK))
+        book.flush()
+        command = [program, book.name] if any(kind == PHRASE for _, kind, _ in job) else [program]
+        done = subprocess.run(command, input=job_lines(job).encode(), stdout=subprocess.PIPE, stderr=subprocess.PIPE)
     lines = done.stdout.decode("latin-1").split("\n")
     if lines.pop() != "" or not lines or not all(LINE.fullmatch(line) for line in lines):
         raise Difference("the sending program gave no listing: %r" % done.stdout[:200])
@@ -220,9 +231,11 @@ def draw_text(rng, kind, length):
 
 def draw_page(rng, identity=None):
     identity = draw_identity(rng) if identity is None else identity
-    kind = rng.randrange(8)
+    kind = rng.choice((*TONES, NUMERIC, ALPHA, *DATA, PHRASE))
     if kind in TONES:
         return identity, kind, b""
+    if kind == PHRASE:
+        return identity, kind, rng.choice(BOOK)
     most = 60 if kind == NUMERIC else 240 if kind == ALPHA else 84
     length = rng.randint(1, rng.choice((5, 20, most)))
     return identity, kind, draw_text(rng, kind, length)
@@ -267,6 +280,10 @@ def fixed_jobs(rng):
     yield [(some + kind, kind, HEX * 5) for kind in DATA]
     yield [(some + kind, kind, b"".join(b"%05X" % (1 << n) for n in range(20))) for kind in DATA]
     yield [(some, 6, b"00000" * 84), (some, 7, b"FFFFF" * 30), (some, 6, b"33333" * 84)]
+    # Every phrase; the same phrase to several receivers, and once more written out.
+    for first in (0, 48, 96):
+        yield [(draw_identity(rng), PHRASE, phrase) for phrase in BOOK[first:first + 48]]
+    yield [(some, PHRASE, BOOK[99]), (some + 3, PHRASE, BOOK[99]), (some, ALPHA, BOOK[99]), (some + 5, PHRASE, BOOK[0])]
     # Every character, alone and together.
     yield [(some, NUMERIC, DIGITS), (some, NUMERIC, DIGITS[::-1]), (some, NUMERIC, b"    1")]
     yield [(some + n % 8, NUMERIC, bytes([c])) for n, c in enumerate(DIGITS) if c != 32]
@@ -293,6 +310,7 @@ def fixed_jobs(rng):
         yield [first, message, tone, later]
         yield [first, message, message, tone, tone, later]
         yield [first, (some + 8 + frame, 6, b"12345"), tone, later]
+        yield [first, (some + 8 + frame, PHRASE, BOOK[1]), tone, later]
         yield [first, tone, message, later]
     # Full frames; a last word that is an address; messages in the last slots.
     yield [(some + 7, 1, b""), (some + 15, 2, b"")]

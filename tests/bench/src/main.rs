@@ -11,7 +11,8 @@ mod clock;
 mod measure;
 
 use generate::words::Damage;
-use generate::{jobs, listings, words, Random};
+use generate::{books, jobs, listings, words, Random};
+use independent::book::NO_BOOK;
 use independent::send::Accepted;
 use independent::{codeword, reader, send, Refusal};
 use measure::{print_head, row, Effort};
@@ -120,30 +121,34 @@ impl Bench {
         let mixed = jobs::pages(&mut self.random, 48, &[0, 1, 2, 3, 4, 5, 6, 7], &[0, 1, 2, 3, 4, 5, 6, 7]);
         let data = jobs::maximal_data(&mut self.random, &[3]);
         let tones = jobs::pages(&mut self.random, 48, &[5], &[0]);
-        for (name, job) in [
-            ("1 numeric page of 10 characters", &b"12D687 4 30313233343536373839\n"[..]),
-            ("48 tones in one frame", &tones),
-            ("48 pages of every kind", &mixed),
-            ("48 alphanumeric pages of 240 characters in one frame", &maximal),
-            ("48 data pages of 84 groups in one frame", &data),
+        let (phrases, longest) = jobs::maximal_phrases(&mut self.random, &[3]);
+        for (name, job, book) in [
+            ("1 numeric page of 10 characters", &b"12D687 4 30313233343536373839\n"[..], NO_BOOK),
+            ("48 tones in one frame", &tones, NO_BOOK),
+            ("48 pages of every kind", &mixed, NO_BOOK),
+            ("48 alphanumeric pages of 240 characters in one frame", &maximal, NO_BOOK),
+            ("48 data pages of 84 groups in one frame", &data, NO_BOOK),
+            ("1 phrase of a short book", b"12D687 9 04\n", books::SHORT),
+            ("48 phrases of 240 characters in one frame, the longest book", &phrases, &longest),
         ] {
-            self.send_row(name, job);
-            self.list_row(name, job);
-            self.steps_rows(name, job);
+            self.send_row(name, job, book);
+            self.list_row(name, job, book);
+            self.steps_rows(name, job, book);
         }
         for pages in [1, 12, 48] {
             let job = jobs::alphanumeric(&mut self.random, pages, 240, &[0, 1, 2, 3, 4, 5, 6, 7]);
-            self.send_row(&format!("by size: {pages} alphanumeric pages of 240 characters in any frames"), &job);
+            self.send_row(&format!("by size: {pages} alphanumeric pages of 240 characters in any frames"), &job, NO_BOOK);
         }
         let faulty = [&maximal[..maximal.len() - 1], b"0\n"].concat();
-        self.send_row("declined: the largest job with a fault at its end", &faulty);
+        self.send_row("declined: the largest job with a fault at its end", &faulty, NO_BOOK);
     }
 
-    fn send_row(&mut self, name: &str, job: &[u8]) {
+    fn send_row(&mut self, name: &str, job: &[u8], book: &[u8]) {
         let mut words = self.words.clone();
         let mut slots = self.slots.clone();
-        let card::Report { place, position, number, batches, words: count } = card::send(job, &mut self.words, &mut self.slots);
-        match send::send(job, &mut words, &mut slots) {
+        let card::Report { place, position, number, batches, words: count } =
+            card::send(job, book, &mut self.words, &mut self.slots);
+        match send::send(job, book, &mut words, &mut slots) {
             Ok(answer) => assert_eq!((number, answer), (0, send::Report { batches, words: count })),
             Err(refusal) => assert_eq!(refusal, Refusal { number, place, position }),
         }
@@ -152,45 +157,45 @@ impl Bench {
             self.effort,
             &format!("send {name}"),
             1,
-            &mut || _ = black_box(card::send(black_box(job), &mut self.words, &mut self.slots)),
-            &mut || _ = black_box(send::send(black_box(job), &mut words, &mut slots)),
+            &mut || _ = black_box(card::send(black_box(job), black_box(book), &mut self.words, &mut self.slots)),
+            &mut || _ = black_box(send::send(black_box(job), black_box(book), &mut words, &mut slots)),
         );
     }
 
-    fn list_row(&mut self, name: &str, job: &[u8]) {
+    fn list_row(&mut self, name: &str, job: &[u8], book: &[u8]) {
         let mut bytes = self.bytes.clone();
-        let listed = send::list(job, &mut bytes).expect("good job");
-        assert_eq!(card::list(job, &mut self.bytes), card::Bytes { place: 0, position: 0, bytes: listed, number: 0 });
+        let listed = send::list(job, book, &mut bytes).expect("good job");
+        assert_eq!(card::list(job, book, &mut self.bytes), card::Bytes { place: 0, position: 0, bytes: listed, number: 0 });
         assert!(bytes == self.bytes);
         row(
             self.effort,
             &format!("list {name}"),
             1,
-            &mut || _ = black_box(card::list(black_box(job), &mut self.bytes)),
-            &mut || _ = black_box(send::list(black_box(job), &mut bytes)),
+            &mut || _ = black_box(card::list(black_box(job), black_box(book), &mut self.bytes)),
+            &mut || _ = black_box(send::list(black_box(job), black_box(book), &mut bytes)),
         );
     }
 
     /// A start and every step of a job, and the start alone. The library's state is lent; the independent implementation makes its own.
-    fn steps_rows(&mut self, name: &str, job: &[u8]) {
+    fn steps_rows(&mut self, name: &str, job: &[u8], book: &[u8]) {
         use card::steps::{self, start, step, Sender};
         let mut state = Sender::boxed();
-        assert_eq!(start(job, &mut state), steps::Refusal::NONE);
-        assert!(send::Sender::start(job).expect("good job").all(|word| step(&mut state).word == word));
+        let start = |state: &mut Sender| black_box(start(black_box(job), black_box(book), state));
+        let start_alone = || send::Sender::start(black_box(job), black_box(book)).expect("good job");
+        assert_eq!(start(&mut state), steps::Refusal::NONE);
+        assert!(start_alone().all(|word| step(&mut state).word == word));
         assert_eq!(step(&mut state).done, 1);
-        row(self.effort, &format!("start {name}"), 1, &mut || _ = black_box(start(black_box(job), &mut state)), &mut || {
-            _ = black_box(send::Sender::start(black_box(job)))
-        });
+        row(self.effort, &format!("start {name}"), 1, &mut || _ = start(&mut state), &mut || _ = black_box(start_alone()));
         row(
             self.effort,
             &format!("start and all steps of {name}"),
             1,
             &mut || {
-                black_box(start(black_box(job), &mut state));
+                start(&mut state);
                 while black_box(step(&mut state)).done == 0 {}
             },
             &mut || {
-                for word in send::Sender::start(black_box(job)).expect("good job") {
+                for word in start_alone() {
                     black_box(word);
                 }
             },
@@ -200,7 +205,7 @@ impl Bench {
     /// The batches of the largest job.
     fn largest(&mut self) -> Vec<u32> {
         let maximal = jobs::maximal(&mut self.random, &[3]);
-        Accepted::new(&maximal).expect("good job").words().split_off(18)
+        Accepted::new(&maximal, NO_BOOK).expect("good job").words().split_off(18)
     }
 
     fn reading(&mut self) {

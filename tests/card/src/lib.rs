@@ -72,12 +72,14 @@ extern "C" {
     fn card_send(
         job: *const u8,
         job_length: usize,
+        book: *const u8,
+        book_length: usize,
         words: *mut u32,
         words_length: usize,
         slots: *mut u32,
         slots_length: usize,
     ) -> Report;
-    fn card_list(job: *const u8, job_length: usize, out: *mut u8, out_length: usize) -> Bytes;
+    fn card_list(job: *const u8, job_length: usize, book: *const u8, book_length: usize, out: *mut u8, out_length: usize) -> Bytes;
     fn card_read_words(words: *const u32, words_length: usize, out: *mut u8, out_length: usize) -> Reading;
     fn card_read_words_slowly(words: *const u32, words_length: usize, out: *mut u8, out_length: usize) -> Reading;
     fn card_read_listing(listing: *const u8, listing_length: usize, out: *mut u8, out_length: usize) -> Reading;
@@ -94,14 +96,25 @@ pub fn correct_slowly(word: u32) -> Word {
     unsafe { card_correct_slowly(word) }
 }
 
-pub fn send(job: &[u8], words: &mut [u32], slots: &mut [u32]) -> Report {
+pub fn send(job: &[u8], book: &[u8], words: &mut [u32], slots: &mut [u32]) -> Report {
     // SAFETY: each pointer comes with the length of its slice, and the borrows keep the lent slices apart.
-    unsafe { card_send(job.as_ptr(), job.len(), words.as_mut_ptr(), words.len(), slots.as_mut_ptr(), slots.len()) }
+    unsafe {
+        card_send(
+            job.as_ptr(),
+            job.len(),
+            book.as_ptr(),
+            book.len(),
+            words.as_mut_ptr(),
+            words.len(),
+            slots.as_mut_ptr(),
+            slots.len(),
+        )
+    }
 }
 
-pub fn list(job: &[u8], out: &mut [u8]) -> Bytes {
+pub fn list(job: &[u8], book: &[u8], out: &mut [u8]) -> Bytes {
     // SAFETY: as in send.
-    unsafe { card_list(job.as_ptr(), job.len(), out.as_mut_ptr(), out.len()) }
+    unsafe { card_list(job.as_ptr(), job.len(), book.as_ptr(), book.len(), out.as_mut_ptr(), out.len()) }
 }
 
 pub fn read_words(words: &[u32], out: &mut [u8]) -> Reading {

@@ -3,11 +3,13 @@
 
 mod data;
 mod declined;
+mod phrases;
 pub mod program;
 mod slow;
 
 use crate::steps::{self, Sender, Step};
 use crate::{Bytes, Changes, Reading, Report, Word};
+use independent::book::NO_BOOK;
 use independent::codeword::Meaning;
 use independent::{codeword, job, listing, reader, send, state, Refusal};
 use std::slice::{from_raw_parts, from_raw_parts_mut};
@@ -93,6 +95,39 @@ pub const FAULTS: &[&str] = &[
     "low-bits-on-top",
     "data-starts-in-the-pause",
     "cut-within-a-group",
+    "phrases-from-1",
+    "phrases-in-hexadecimal",
+    "four-digits-name-a-phrase",
+    "no-text-is-phrase-00",
+    "text-of-the-job",
+    "phrases-with-function-1",
+    "99-phrases",
+    "101-phrases",
+    "241-characters",
+    "blank-phrases",
+    "lower-case-phrases",
+    "phrases-with-3-and-4",
+    "phrases-of-eight-bits",
+    "last-phrase-without-newline",
+    "19-where-a-phrase-is-named",
+    "19-after-lines",
+    "19-after-9",
+    "place-of-19-from-0",
+    "place-of-19-is-1",
+    "place-of-19-at-the-end",
+    "18-before-2",
+    "18-before-4",
+    "18-without-a-book",
+    "13-for-18",
+    "position-with-18",
+    "position-with-19",
+    "list-without-book",
+    "start-without-book",
+    "program-without-book",
+    "program-without-a-missing-book",
+    "program-19-before-24",
+    "program-long-book-is-24",
+    "program-short-book",
     "slow-one-bit",
     "slow-31-bits",
     "slow-three-bits",
@@ -141,12 +176,17 @@ fn answered(received: u32, word: u32) -> Word {
     Word { word, number: 0, changed }
 }
 
-/// The job as it is or, for some mistakes, as it is wrongly taken.
-fn taken(job: &[u8]) -> Vec<u8> {
+/// The job and its book as they are or, for some mistakes, as they are wrongly taken.
+fn taken(job: &[u8], book: &[u8]) -> (Vec<u8>, Vec<u8>) {
     if asked().is_empty() {
-        return job.to_vec();
+        return (job.to_vec(), book.to_vec());
     }
-    let mut job: Vec<u8> = job.split_inclusive(|&byte| byte == b'\n').flat_map(data::taken).collect();
+    let lines = || job.split_inclusive(|&byte| byte == b'\n');
+    if is("19-where-a-phrase-is-named") && !lines().any(phrases::is_phrase) {
+        return (job.to_vec(), NO_BOOK.to_vec());
+    }
+    let book = phrases::taken_book(book);
+    let mut job: Vec<u8> = lines().map(data::taken).flat_map(|line| phrases::taken(&line, &book)).collect();
     if is("newline-optional") && job.last().is_some_and(|&byte| byte != b'\n') {
         job.push(b'\n');
     }
@@ -164,25 +204,27 @@ fn taken(job: &[u8]) -> Vec<u8> {
     if is("eight-before-lines") && job.iter().filter(|&&byte| byte == b'\n').count() > 48 {
         job = b"000000 0\n".repeat(49);
     }
-    job
+    (job, book)
 }
 
 #[no_mangle]
 unsafe extern "C" fn card_send(
     job: *const u8,
     job_length: usize,
+    book: *const u8,
+    book_length: usize,
     words: *mut u32,
     words_length: usize,
     slots: *mut u32,
     slots_length: usize,
 ) -> Report {
-    let job = taken(from_raw_parts(job, job_length));
+    let (job, book) = taken(from_raw_parts(job, job_length), from_raw_parts(book, book_length));
     let words = from_raw_parts_mut(words, words_length);
     let slots = from_raw_parts_mut(slots, slots_length);
     if is("last-buffer-unit-unused") && words_length > 0 {
-        return report(send::send(&job, &mut words[..words_length - 1], slots));
+        return report(send::send(&job, &book, &mut words[..words_length - 1], slots));
     }
-    let mut answer = report(send::send(&job, words, slots).map_err(|right| declined::said(&job, right)));
+    let mut answer = report(send::send(&job, &book, words, slots).map_err(|right| declined::said(&job, &book, right)));
     if answer.number == 0 {
         let end = answer.words as usize;
         if is("no-idle-batch") && words[end - 16..end] == [codeword::IDLE; 16] && words[end - 18] >> 31 == 1 {
@@ -215,9 +257,17 @@ fn report(result: Result<send::Report, Refusal>) -> Report {
 }
 
 #[no_mangle]
-unsafe extern "C" fn card_list(job: *const u8, job_length: usize, out: *mut u8, out_length: usize) -> Bytes {
-    let job = taken(from_raw_parts(job, job_length));
-    match send::list(&job, from_raw_parts_mut(out, out_length)).map_err(|right| declined::said(&job, right)) {
+unsafe extern "C" fn card_list(
+    job: *const u8,
+    job_length: usize,
+    book: *const u8,
+    book_length: usize,
+    out: *mut u8,
+    out_length: usize,
+) -> Bytes {
+    let book = if is("list-without-book") { NO_BOOK } else { from_raw_parts(book, book_length) };
+    let (job, book) = taken(from_raw_parts(job, job_length), book);
+    match send::list(&job, &book, from_raw_parts_mut(out, out_length)).map_err(|right| declined::said(&job, &book, right)) {
         Ok(bytes) => Bytes { place: 0, position: 0, bytes, number: 0 },
         Err(Refusal { number, place, mut position }) => {
             if is("list-without-position") {
@@ -363,9 +413,16 @@ fn reading(result: Result<reader::Reading, Refusal>, words: impl FnOnce() -> Vec
 }
 
 #[no_mangle]
-unsafe extern "C" fn card_start(job: *const u8, job_length: usize, state: *mut Sender) -> steps::Refusal {
-    let job = taken(from_raw_parts(job, job_length));
-    let pages = match job::parse(&job).map_err(|right| declined::said(&job, right)) {
+unsafe extern "C" fn card_start(
+    job: *const u8,
+    job_length: usize,
+    book: *const u8,
+    book_length: usize,
+    state: *mut Sender,
+) -> steps::Refusal {
+    let book = if is("start-without-book") { NO_BOOK } else { from_raw_parts(book, book_length) };
+    let (job, book) = taken(from_raw_parts(job, job_length), book);
+    let pages = match job::parse(&job, &book).map_err(|right| declined::said(&job, &book, right)) {
         Ok(pages) => pages,
         Err(Refusal { number, place, mut position }) => {
             if is("start-writes-when-declined") {

@@ -101,13 +101,13 @@ impl Step {
 }
 
 extern "C" {
-    fn card_start(job: *const u8, job_length: usize, state: *mut Sender) -> Refusal;
+    fn card_start(job: *const u8, job_length: usize, book: *const u8, book_length: usize, state: *mut Sender) -> Refusal;
     fn card_step(state: *mut Sender) -> Step;
 }
 
-pub fn start(job: &[u8], state: &mut Sender) -> Refusal {
-    // SAFETY: the pointer comes with the length of its slice, and the borrows keep job and state apart.
-    unsafe { card_start(job.as_ptr(), job.len(), state) }
+pub fn start(job: &[u8], book: &[u8], state: &mut Sender) -> Refusal {
+    // SAFETY: each pointer comes with the length of its slice, and the borrows keep the state apart from both.
+    unsafe { card_start(job.as_ptr(), job.len(), book.as_ptr(), book.len(), state) }
 }
 
 pub fn step(state: &mut Sender) -> Step {

@@ -1,4 +1,4 @@
-//! Edits of bytes, for jobs and listings alike.
+//! Edits of bytes, for jobs, books and listings alike.
 
 use crate::Random;
 
@@ -65,4 +65,28 @@ pub fn mutate_lines(random: &mut Random, bytes: &mut Vec<u8>) {
         }
     }
     *bytes = lines.concat();
+}
+
+/// Every byte put over or into every place of a model, every byte taken out, every front.
+pub fn all_edits(model: &[u8]) -> Vec<Vec<u8>> {
+    let mut edited = vec![];
+    for at in 0..=model.len() {
+        for byte in 0..=255 {
+            let mut put_in = model.to_vec();
+            put_in.insert(at, byte);
+            edited.push(put_in);
+            if at < model.len() {
+                let mut over = model.to_vec();
+                over[at] = byte;
+                edited.push(over);
+            }
+        }
+        edited.push(model[..at].to_vec());
+        if at < model.len() {
+            let mut without = model.to_vec();
+            without.remove(at);
+            edited.push(without);
+        }
+    }
+    edited
 }

@@ -1,10 +1,10 @@
-//! Jobs: good ones of every shape and size, and jobs that are declined for each reason.
+//! Jobs: good ones of every shape and size, and jobs that are declined for each reason. A job that may have phrases comes with its book.
 
-use crate::{bytes, Random};
+use crate::{books, bytes, Random};
 
 const NUMERIC: &[u8] = b"0123456789U -][";
 const MOST_NUMERIC: usize = 60;
-const MOST_ALPHANUMERIC: usize = 240;
+pub(crate) const MOST_ALPHANUMERIC: usize = 240;
 const DIGITS: &[u8] = b"0123456789ABCDEF";
 const GROUP: usize = 5;
 const MOST_GROUPS: usize = 84;
@@ -13,11 +13,15 @@ const RESERVED: &[u32] = &[0x1E_A270, 0x1F_3480];
 
 /// A page line with the given text in pairs, without further ado.
 pub fn line(identity: u32, kind: u32, text: &[u8]) -> Vec<u8> {
-    let pairs: String = text.iter().map(|byte| format!("{byte:02X}")).collect();
-    line_of_digits(identity, kind, pairs.as_bytes())
+    line_of_digits(identity, kind, pairs(text).as_bytes())
 }
 
-/// A page line with these digits for a text: a data page where the kind is 6 or 7.
+/// A text's bytes as pairs of digits.
+pub(crate) fn pairs(text: &[u8]) -> String {
+    text.iter().map(|byte| format!("{byte:02X}")).collect()
+}
+
+/// A page line with these digits for a text: a data page where the kind is 6 or 7, a phrase where it is 9.
 pub fn line_of_digits(identity: u32, kind: u32, digits: &[u8]) -> Vec<u8> {
     let space = if digits.is_empty() { "" } else { " " };
     [format!("{identity:06X} {kind:X}{space}").as_bytes(), digits, b"\n"].concat()
@@ -62,7 +66,7 @@ fn digits(random: &mut Random, count: usize) -> Vec<u8> {
 }
 
 /// A length from 1 to `most`, often at a limit or just where another codeword begins.
-fn length(random: &mut Random, most: usize) -> usize {
+pub(crate) fn length(random: &mut Random, most: usize) -> usize {
     let length = match random.below(8) {
         0 => 1,
         1 | 2 => most,
@@ -99,6 +103,25 @@ fn page_of_kind(random: &mut Random, frames: &[u32], kind: u32) -> Vec<u8> {
     line(identity, kind, &text_of_kind(random, kind))
 }
 
+/// A phrase's number of two digits: the first, the last or any of a book's, which has at least one.
+fn phrase_number(random: &mut Random, phrases: usize) -> String {
+    let any = random.below(phrases);
+    format!("{:02}", random.pick(&[0, phrases - 1, any, any]))
+}
+
+/// The pages of good lines, some of them with a phrase of a book for their text; without phrases there is no book.
+fn with_phrases(random: &mut Random, lines: &[u8], phrases: usize) -> Vec<u8> {
+    if phrases == 0 {
+        return lines.to_vec();
+    }
+    let once_in = random.pick(&[1, 2, 5]);
+    let mut with_phrase = |line: &[u8]| match random.once_in(once_in) {
+        true => [&line[..7], b"9 ", phrase_number(random, phrases).as_bytes(), b"\n"].concat(),
+        false => line.to_vec(),
+    };
+    lines.split_inclusive(|&byte| byte == b'\n').flat_map(&mut with_phrase).collect()
+}
+
 const ALL_FRAMES: &[u32] = &[0, 1, 2, 3, 4, 5, 6, 7];
 const ALL_KINDS: &[u32] = &[0, 1, 2, 3, 4, 5, 6, 7];
 const DATA_KINDS: &[u32] = &[6, 7];
@@ -133,6 +156,16 @@ pub fn maximal_data(random: &mut Random, frames: &[u32]) -> Vec<u8> {
         job.extend(line_of_digits(identity, kind, &digits(random, GROUP * MOST_GROUPS)));
     }
     job
+}
+
+/// As many from a book: 48 pages, each with one of 100 phrases of 240 characters. With the book.
+pub fn maximal_phrases(random: &mut Random, frames: &[u32]) -> (Vec<u8>, Vec<u8>) {
+    let mut job = Vec::new();
+    for _ in 0..48 {
+        let identity = identity(random, frames);
+        job.extend(line_of_digits(identity, 9, phrase_number(random, books::MOST_PHRASES).as_bytes()));
+    }
+    (job, books::longest(random))
 }
 
 /// `count` alphanumeric pages of the same length.
@@ -196,8 +229,20 @@ fn around_the_pause(random: &mut Random) -> Vec<u8> {
     job
 }
 
-/// A good job of any shape and size.
-pub fn good(random: &mut Random) -> Vec<u8> {
+/// A good job of any shape and size, with its book, from which some of the pages may have their text.
+pub fn good(random: &mut Random) -> (Vec<u8>, Vec<u8>) {
+    let phrases = books::count(random);
+    (good_for(random, phrases), books::good(random, phrases))
+}
+
+/// A good job for a book of so many phrases.
+fn good_for(random: &mut Random, phrases: usize) -> Vec<u8> {
+    let lines = good_lines(random);
+    with_phrases(random, &lines, phrases)
+}
+
+/// A good job of any shape and size, without phrases.
+fn good_lines(random: &mut Random) -> Vec<u8> {
     let frame = [random.below(8) as u32];
     let count = match random.below(6) {
         0 => 48,
@@ -232,7 +277,8 @@ pub fn good(random: &mut Random) -> Vec<u8> {
 
 /// A line that isn't written as a page line.
 fn malformed_line(random: &mut Random) -> Vec<u8> {
-    let mut line = page(random);
+    let any = page(random);
+    let mut line = with_phrases(random, &any, 1);
     let end = line.len() - 1;
     match random.below(9) {
         0 => line.truncate(random.below(8)),
@@ -244,7 +290,7 @@ fn malformed_line(random: &mut Random) -> Vec<u8> {
         6 => line.insert(6, b' '),
         // an odd number of digits where pairs are asked for, and a data page with something that is no digit
         7 => {
-            let kind = random.pick(&[0, 3, 4, 5, 8, 15]);
+            let kind = random.pick(&[0, 3, 4, 5, 8, 9, 15]);
             let count = 2 * length(random, MOST_ALPHANUMERIC) - 1;
             line = line_of_digits(identity(random, ALL_FRAMES), kind, &digits(random, count));
         }
@@ -316,11 +362,35 @@ fn faulty_digits(random: &mut Random, number: u32) -> Vec<u8> {
     digits(random, count)
 }
 
-/// The numbers that a line is declined with, in the order of the tests.
-const LINE_NUMBERS: &[u32] = &[1, 2, 3, 4, 25, 12, 13, 14, 6, 7];
+/// Digits that are the number of no phrase, though pairs, where the book has so many phrases.
+fn no_phrase(random: &mut Random, phrases: usize) -> Vec<u8> {
+    match random.below(6) {
+        0 => vec![],
+        1 | 2 if phrases < books::MOST_PHRASES => format!("{:02}", random.pick(&[phrases, 99])).into_bytes(),
+        3 => [&b"00"[..], phrase_number(random, phrases).as_bytes()].concat(),
+        4 => phrase_number(random, phrases).repeat(random.between(2, 4)).into_bytes(),
+        _ => {
+            let mut pair = digits(random, 2);
+            pair[random.below(2)] = random.pick(b"ABCDEF");
+            pair
+        }
+    }
+}
 
-/// A line that is declined with the given one of these numbers, and often has faults of later ones too.
-fn faulty_line(random: &mut Random, number: u32) -> Vec<u8> {
+/// The numbers that a line is declined with, in the order of the tests.
+const LINE_NUMBERS: &[u32] = &[1, 2, 3, 4, 25, 12, 13, 14, 18, 6, 7];
+
+/// One of these numbers; without phrases, where there is no book, none is 18.
+fn line_number(random: &mut Random, phrases: usize) -> u32 {
+    match random.pick(LINE_NUMBERS) {
+        18 if phrases == 0 => 4,
+        number => number,
+    }
+}
+
+/// A line that is declined with the given one of these numbers, where the book has so many phrases, and often has faults of later
+/// numbers too.
+fn faulty_line(random: &mut Random, number: u32, phrases: usize) -> Vec<u8> {
     if number == 1 {
         return malformed_line(random);
     }
@@ -332,7 +402,9 @@ fn faulty_line(random: &mut Random, number: u32) -> Vec<u8> {
     };
     let kind = match number {
         2 | 3 => random.pick(&[0, 1, 2, 3, 4, 5, 6, 7, 9, 15]),
+        4 if phrases > 0 => random.pick(&[8, 10, 11, 12, 13, 14, 15]),
         4 => random.between(8, 15) as u32,
+        18 => 9,
         25 => random.pick(DATA_KINDS),
         12 => random.below(4) as u32,
         13 | 14 => random.pick(&[4, 5, 6, 7]),
@@ -341,6 +413,9 @@ fn faulty_line(random: &mut Random, number: u32) -> Vec<u8> {
     };
     if DATA_KINDS.contains(&kind) {
         return line_of_digits(identity, kind, &faulty_digits(random, number));
+    }
+    if kind == 9 && phrases > 0 {
+        return line_of_digits(identity, kind, &no_phrase(random, phrases));
     }
     let text = match number {
         13 => vec![],
@@ -358,27 +433,33 @@ fn faulty_line(random: &mut Random, number: u32) -> Vec<u8> {
     line(identity, kind, &text)
 }
 
-/// A job that is declined, or nearly so.
-pub fn bad(random: &mut Random) -> Vec<u8> {
+/// A job that is declined, or nearly so, with its book, which is good.
+pub fn bad(random: &mut Random) -> (Vec<u8>, Vec<u8>) {
+    let phrases = books::count(random);
+    (bad_for(random, phrases), books::good(random, phrases))
+}
+
+/// A job that is declined with a book of so many phrases, or nearly so.
+fn bad_for(random: &mut Random, phrases: usize) -> Vec<u8> {
     match random.below(8) {
         // one faulty line among good ones, perhaps another behind it
         0..=2 => {
             let before = random.pick(&[0, 0, 1, 2, 10, 46, 47, 48]);
             let behind = random.pick(&[0, 0, 1, 2, 5]);
             let mut job = Vec::new();
-            let numbers = (random.pick(LINE_NUMBERS), random.pick(LINE_NUMBERS));
-            job.extend(short_pages(random, before));
-            job.extend(faulty_line(random, numbers.0));
-            job.extend(short_pages(random, behind));
+            let numbers = (line_number(random, phrases), line_number(random, phrases));
+            job.extend(short_pages(random, before, phrases));
+            job.extend(faulty_line(random, numbers.0, phrases));
+            job.extend(short_pages(random, behind, phrases));
             if random.once_in(3) {
-                job.extend(faulty_line(random, numbers.1));
+                job.extend(faulty_line(random, numbers.1, phrases));
             }
             job
         }
         // about 48 lines, with or without something behind
         3 => {
             let count = random.between(46, 50);
-            let mut job = short_pages(random, count);
+            let mut job = short_pages(random, count, phrases);
             match random.below(6) {
                 0 => {
                     job.pop();
@@ -386,32 +467,33 @@ pub fn bad(random: &mut Random) -> Vec<u8> {
                 1 => job.push(b'\n'),
                 2 => job.push(random.byte()),
                 3 => {
-                    let number = random.pick(LINE_NUMBERS);
-                    job.extend(faulty_line(random, number));
+                    let number = line_number(random, phrases);
+                    job.extend(faulty_line(random, number, phrases));
                 }
                 _ => {}
             }
             job
         }
         4 | 5 => {
-            let mut job = good(random);
+            let mut job = good_for(random, phrases);
             bytes::mutate(random, &mut job);
             job
         }
         6 => {
-            let mut job = good(random);
+            let mut job = good_for(random, phrases);
             bytes::mutate_lines(random, &mut job);
             job
         }
         _ => {
-            let mut job = page(random);
+            let line = page(random);
+            let mut job = with_phrases(random, &line, phrases);
             bytes::mutate(random, &mut job);
             job
         }
     }
 }
 
-fn short_pages(random: &mut Random, count: usize) -> Vec<u8> {
+fn short_pages(random: &mut Random, count: usize, phrases: usize) -> Vec<u8> {
     let mut job = Vec::new();
     for _ in 0..count {
         let identity = identity(random, ALL_FRAMES);
@@ -422,11 +504,11 @@ fn short_pages(random: &mut Random, count: usize) -> Vec<u8> {
             kind => line(identity, kind as u32, &[]),
         });
     }
-    job
+    with_phrases(random, &job, phrases)
 }
 
 /// Every slot of a batch as the pause after a message, and behind that message, in every order, up to three tones and messages in the
-/// frame of the pause and in the next; the same in every run.
+/// frame of the pause and in the next; the same in every run. Those with phrases are for the short book.
 fn pauses() -> Vec<Vec<u8>> {
     let mut jobs = vec![];
     for words in 1..=16 {
@@ -435,7 +517,8 @@ fn pauses() -> Vec<Vec<u8>> {
         let frame = (1 + words as u32) % 16 / 2;
         let next = (frame + 1) % 8;
         let data = line_of_digits(frame, 6, b"12345");
-        let behind = [line(frame, 1, b""), line(frame, 4, b"1"), line(next, 2, b""), line(next, 5, b"AB"), data];
+        let phrase = line_of_digits(next, 9, b"00");
+        let behind = [line(frame, 1, b""), line(frame, 4, b"1"), line(next, 2, b""), phrase, data];
         let mut longest = vec![message];
         for _ in 0..3 {
             longest = longest.iter().flat_map(|job| behind.iter().map(move |page| [&job[..], page].concat())).collect();
@@ -473,7 +556,7 @@ pub fn texts() -> Vec<Vec<u8>> {
 /// have pairs; all upper-case, with one in lower case, or with a `-` behind them.
 fn digit_texts() -> Vec<Vec<u8>> {
     let mut jobs = vec![];
-    for kind in [4, 6, 7, 8] {
+    for kind in [4, 6, 7, 8, 9] {
         let mut push = |digits: &[u8]| jobs.push([line(7, 0, b""), line_of_digits(9, kind, digits)].concat());
         for count in [0, 1, 4, 5, 6, 9, 10, 11, 415, 419, 420, 421, 424, 425, 426, 430] {
             let digits: Vec<u8> = DIGITS.iter().copied().cycle().take(count).collect();
@@ -489,6 +572,31 @@ fn digit_texts() -> Vec<Vec<u8>> {
     jobs
 }
 
+/// The same of kind 9: every pair of digits, no text, and what is more, less or something else than a pair; some of them also
+/// with an identity that comes first.
+pub fn phrase_numbers() -> Vec<Vec<u8>> {
+    let mut jobs = vec![];
+    let mut push = |identity: u32, digits: &[u8]| jobs.push([line(7, 0, b""), line_of_digits(identity, 9, digits)].concat());
+    for pair in 0..=255 {
+        push(9, pairs(&[pair]).as_bytes());
+    }
+    let others = ["", "0", "7", "007", "0000", "0007", "0700", "0100", "000000", "0a", "a0", "0:", "/0", "-0", "00-", "00 ", " 00"];
+    for digits in others {
+        for identity in [9, 0x20_0000, 0x1E_A270] {
+            push(identity, digits.as_bytes());
+        }
+    }
+    jobs
+}
+
+/// Whether a job has a line of kind 9, well written or not.
+pub fn names_a_phrase(job: &[u8]) -> bool {
+    job.split(|&byte| byte == b'\n').any(|line| line.get(7) == Some(&b'9'))
+}
+
+/// Jobs for any book: without a line, with a faulty one, without a phrase, with the first two phrases and with the hundredth.
+pub const FOR_BOOKS: [&[u8]; 5] = [b"", b"x", b"000009 0\n", b"000009 9 00\n000001 9 01\n", b"000007 9 99\n"];
+
 /// The longest texts with a bad character at every position, and another one at the end.
 fn bad_positions() -> Vec<Vec<u8>> {
     let mut jobs = vec![];
@@ -503,9 +611,9 @@ fn bad_positions() -> Vec<Vec<u8>> {
     jobs
 }
 
-/// Jobs on both sides of every limit, the same in every run.
+/// Jobs on both sides of every limit, the same in every run. Those that have phrases are for the short book.
 pub fn limits() -> Vec<Vec<u8>> {
-    let mut jobs = [pauses(), texts(), bad_positions()].concat();
+    let mut jobs = [pauses(), texts(), phrase_numbers(), bad_positions()].concat();
     // identities by kinds
     let mut identities = vec![0, 1, 0x20_0000, 0x20_0001, 0x3E_A270, 0x3F_3480, 0xFF_FFFF];
     for edge in EDGES.iter().chain(RESERVED) {
@@ -517,6 +625,7 @@ pub fn limits() -> Vec<Vec<u8>> {
             jobs.push(line(identity, kind, b"1"));
             jobs.push(line_of_digits(identity, kind, b"12345"));
         }
+        jobs.push(line_of_digits(identity, 9, b"00"));
     }
     // kinds by lengths, good characters and bad, with and without a space at the end
     for kind in 0..16 {
@@ -542,28 +651,11 @@ pub fn limits() -> Vec<Vec<u8>> {
         }
     }
     // every byte put over or into every place of short lines, every byte taken out, every front
-    for model in [&b"000009 4 3132\n"[..], b"000009 0\n", b"000009 5 41\n000007 3\n", b"000009 6 12345\n"] {
-        for at in 0..=model.len() {
-            for byte in 0..=255 {
-                let mut put_in = model.to_vec();
-                put_in.insert(at, byte);
-                jobs.push(put_in);
-                if at < model.len() {
-                    let mut over = model.to_vec();
-                    over[at] = byte;
-                    jobs.push(over);
-                }
-            }
-            jobs.push(model[..at].to_vec());
-            if at < model.len() {
-                let mut without = model.to_vec();
-                without.remove(at);
-                jobs.push(without);
-            }
-        }
+    for model in [&b"000009 4 3132\n"[..], b"000009 0\n", b"000009 5 41\n000007 3\n", b"000009 6 12345\n", b"000009 9 10\n"] {
+        jobs.extend(bytes::all_edits(model));
     }
     // few digits, and so many that they are pairs, groups, both or neither
-    for kind in 4..9 {
+    for kind in 4..10 {
         for digits in 0..12 {
             for end in ["\n", "-\n", " \n"] {
                 jobs.push(format!("000009 {kind} {}{end}", "1".repeat(digits)).into_bytes());
@@ -578,7 +670,7 @@ pub fn limits() -> Vec<Vec<u8>> {
     jobs.push(b"000009 5 4142\n".repeat(6_000));
     // line counts
     for count in [0, 1, 2, 47, 48, 49, 50, 100] {
-        for one in [&b"000007 0\n"[..], b"000003 4 31\n", b"000000 5 4142\n", b"000002 7 12345\n"] {
+        for one in [&b"000007 0\n"[..], b"000003 4 31\n", b"000000 5 4142\n", b"000002 7 12345\n", b"000001 9 10\n"] {
             let job = one.repeat(count);
             for end in [&b""[..], b"\n", b"0", b"000007 0", b"200000 0\n", b"000007 9\n", b"\n\n", b"1EA270 0\n"] {
                 jobs.push([&job[..], end].concat());
@@ -586,7 +678,15 @@ pub fn limits() -> Vec<Vec<u8>> {
             if count > 0 {
                 jobs.push(job[..job.len() - 1].to_vec());
             }
-            for bad in [&b"200000 0\n"[..], b"\n", b"000007 1 31\n", b"000007 4 312A2A\n", b"000007 4 20\n", b"000007 6 1234\n"] {
+            for bad in [
+                &b"200000 0\n"[..],
+                b"\n",
+                b"000007 1 31\n",
+                b"000007 4 312A2A\n",
+                b"000007 4 20\n",
+                b"000007 6 1234\n",
+                b"000007 9 11\n",
+            ] {
                 jobs.push([bad, &job].concat());
                 jobs.push([&job[..], bad, &job].concat());
             }
@@ -598,6 +698,8 @@ pub fn limits() -> Vec<Vec<u8>> {
 #[cfg(test)]
 mod tests {
     use super::*;
+    use crate::books::SHORT;
+    use independent::book::NO_BOOK;
     use independent::job::parse;
     use independent::send::{Accepted, Sender};
     use std::collections::{BTreeMap, BTreeSet};
@@ -607,14 +709,19 @@ mod tests {
         let mut random = Random::new(1);
         let mut counts = BTreeSet::new();
         let mut groups = BTreeSet::new();
+        let mut numbers = BTreeSet::new();
         for _ in 0..3000 {
-            let pages = parse(&good(&mut random)).unwrap();
+            let (job, book) = good(&mut random);
+            let pages = parse(&job, &book).unwrap();
             counts.insert(pages.len());
             groups.extend(pages.iter().filter(|page| page.kind > 5).map(|page| (page.kind, page.message_words())));
+            numbers.extend(String::from_utf8(job).unwrap().lines().filter_map(|line| Some(line.split_once(" 9 ")?.1.to_owned())));
         }
         assert!(counts.contains(&1) && counts.contains(&48) && counts.len() > 30);
         // data pages of every length
         assert!(groups.into_iter().eq([6, 7].into_iter().flat_map(|kind| (1..=84).map(move |groups| (kind, groups)))));
+        // every number of a phrase
+        assert!(numbers.into_iter().eq((0..100).map(|number| format!("{number:02}"))));
     }
 
     #[test]
@@ -623,38 +730,49 @@ mod tests {
         let mut positions = BTreeSet::new();
         for &number in LINE_NUMBERS {
             for _ in 0..500 {
-                let line = faulty_line(&mut random, number);
-                let refusal = parse(&line).unwrap_err();
-                assert_eq!(refusal.number, number, "{:?}", String::from_utf8_lossy(&line));
+                let phrases = if number == 18 { random.between(1, 100) } else { books::count(&mut random) };
+                let line = faulty_line(&mut random, number, phrases);
+                let refusal = parse(&line, &b"41\n".repeat(phrases)).unwrap_err();
+                assert_eq!(refusal.number, number, "{phrases} phrases, {:?}", String::from_utf8_lossy(&line));
                 positions.insert(refusal.position);
             }
         }
         assert!([1, 60, 240].iter().all(|position| positions.contains(position)) && positions.len() > 100, "{positions:?}");
     }
 
-    /// The numbers that jobs are declined with, and the positions; 0 and 0 where a job isn't.
-    fn answers(jobs: &[Vec<u8>]) -> (BTreeSet<u32>, BTreeSet<usize>) {
-        jobs.iter().map(|job| parse(job).map_or_else(|refusal| (refusal.number, refusal.position), |_| (0, 0))).unzip()
+    /// The number that a job is declined with, and the position; 0 and 0 where it isn't.
+    fn answer(job: &[u8], book: &[u8]) -> (u32, usize) {
+        parse(job, book).map_or_else(|refusal| (refusal.number, refusal.position), |_| (0, 0))
+    }
+
+    /// Those of many jobs with one book.
+    fn answers(jobs: &[Vec<u8>], book: &[u8]) -> (BTreeSet<u32>, BTreeSet<usize>) {
+        jobs.iter().map(|job| answer(job, book)).unzip()
     }
 
     #[test]
     fn every_refusal_is_met() {
         let mut random = Random::new(3);
-        let drawn: Vec<Vec<u8>> = (0..4000).map(|_| bad(&mut random)).collect();
-        let (numbers, positions) = answers(&drawn);
+        let drawn = (0..4000).map(|_| bad(&mut random));
+        let (numbers, positions): (BTreeSet<u32>, BTreeSet<usize>) = drawn.map(|(job, book)| answer(&job, &book)).unzip();
         assert!(LINE_NUMBERS.iter().chain(&[0, 8]).all(|number| numbers.contains(number)), "{numbers:?}");
         assert!(positions.len() > 50, "{positions:?}");
-        let (numbers, positions) = answers(&limits());
-        assert_eq!(numbers, LINE_NUMBERS.iter().copied().chain([0, 8, 9]).collect());
-        assert_eq!(positions, (0..=240).collect());
-        let (numbers, positions) = answers(&texts());
-        assert_eq!(numbers, [0, 1, 4, 6, 7, 12, 13, 14, 25].into());
-        assert_eq!(positions, [0, 1, 2, 30, 31, 59, 60, 61, 120, 121, 239, 240].into());
+        for book in [NO_BOOK, SHORT] {
+            let with_book = |number: &u32| *number != 18 || !book.is_empty();
+            let (numbers, positions) = answers(&limits(), book);
+            assert_eq!(numbers, LINE_NUMBERS.iter().chain(&[0, 8, 9]).copied().filter(with_book).collect());
+            assert_eq!(positions, (0..=240).collect());
+            let (numbers, positions) = answers(&texts(), book);
+            assert_eq!(numbers, [0, 1, 4, 6, 7, 12, 13, 14, 18, 25].into_iter().filter(with_book).collect());
+            assert_eq!(positions, [0, 1, 2, 30, 31, 59, 60, 61, 120, 121, 239, 240].into());
+        }
+        assert_eq!(answers(&phrase_numbers(), NO_BOOK).0, [1, 2, 3, 4].into());
+        assert_eq!(answers(&phrase_numbers(), SHORT).0, [0, 1, 2, 3, 18].into());
     }
 
     /// Counts the pauses of a job in which pages wait, by their slot (behind a sync, a frame's first, its second) and by who waits.
-    fn count_pauses(job: &[u8], counts: &mut BTreeMap<(&str, &str), usize>) {
-        let Accepted { pages, placement } = Accepted::new(job).unwrap();
+    fn count_pauses(job: &[u8], book: &[u8], counts: &mut BTreeMap<(&str, &str), usize>) {
+        let Accepted { pages, placement } = Accepted::new(job, book).unwrap();
         let slots = &placement.slots;
         for (page, slot) in pages.iter().zip(slots).filter(|(page, _)| page.message_words() > 0) {
             let pause = slot + page.message_words() as u32 + 1;
@@ -681,16 +799,19 @@ mod tests {
     fn every_pause_is_met() {
         let mut random = Random::new(5);
         let (mut fixed, mut drawn) = (BTreeMap::new(), BTreeMap::new());
-        pauses().iter().for_each(|job| count_pauses(job, &mut fixed));
-        (0..1000).for_each(|_| count_pauses(&good(&mut random), &mut drawn));
+        pauses().iter().for_each(|job| count_pauses(job, SHORT, &mut fixed));
+        for _ in 0..1000 {
+            let (job, book) = good(&mut random);
+            count_pauses(&job, &book, &mut drawn);
+        }
         for counts in [fixed, drawn] {
             assert!(counts.len() == 9 && counts.values().all(|&count| count >= 10), "{counts:?}");
         }
     }
 
     /// The bounds of demand 3 less what the job takes: of the addresses in the order in which they go out, and of the batches.
-    fn to_spare(job: &[u8]) -> (Vec<u32>, u32) {
-        let Accepted { pages, placement } = Accepted::new(job).unwrap();
+    fn to_spare(job: &[u8], book: &[u8]) -> (Vec<u32>, u32) {
+        let Accepted { pages, placement } = Accepted::new(job, book).unwrap();
         let words = pages.iter().map(|page| page.message_words() as u32);
         let mut sent: Vec<(u32, u32)> = placement.slots.iter().copied().zip(words).collect();
         sent.sort();
@@ -708,23 +829,28 @@ mod tests {
     fn bounds_are_kept_and_met() {
         let mut random = Random::new(6);
         let latest = latest(&mut random);
-        assert_eq!(to_spare(&latest), (vec![0; 48], 0));
-        assert_eq!(Accepted::new(&latest).unwrap().placement.batches, 289);
-        let mut jobs = pauses();
+        assert_eq!(to_spare(&latest, NO_BOOK), (vec![0; 48], 0));
+        assert_eq!(Accepted::new(&latest, NO_BOOK).unwrap().placement.batches, 289);
+        let mut jobs: Vec<(Vec<u8>, Vec<u8>)> = pauses().into_iter().map(|job| (job, SHORT.to_vec())).collect();
         jobs.extend((0..1000).map(|_| good(&mut random)));
-        for job in jobs {
-            to_spare(&job);
-            let words = Accepted::new(&job).unwrap().words();
+        for (job, book) in jobs {
+            to_spare(&job, &book);
+            let words = Accepted::new(&job, &book).unwrap().words();
             assert!(words.len() <= 18 + 17 * 289);
-            assert!(Sender::start(&job).unwrap().eq(words));
+            assert!(Sender::start(&job, &book).unwrap().eq(words));
         }
     }
 
     #[test]
     fn the_largest_jobs() {
         let mut random = Random::new(4);
-        for job in (0..8).flat_map(|frame| [maximal, maximal_data].map(|maximal| maximal(&mut random, &[frame]))) {
-            let pages = parse(&job).unwrap();
+        let mut jobs = vec![];
+        for frame in 0..8 {
+            jobs.extend([maximal, maximal_data].map(|maximal| (maximal(&mut random, &[frame]), NO_BOOK.to_vec())));
+            jobs.push(maximal_phrases(&mut random, &[frame]));
+        }
+        for (job, book) in jobs {
+            let pages = parse(&job, &book).unwrap();
             assert_eq!(pages.len(), 48);
             assert!(pages.iter().all(|page| page.message_words() == 84));
         }

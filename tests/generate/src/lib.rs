@@ -1,5 +1,6 @@
 //! Seeded inputs for the comparison and the benchmarks: the same seed gives the same inputs on every machine.
 
+pub mod books;
 pub mod bytes;
 pub mod jobs;
 pub mod listings;

@@ -93,8 +93,8 @@ pub fn full_batches(random: &mut Random, batches: usize) -> Vec<u32> {
 
 /// The batches of a good job.
 pub fn sent_batches(random: &mut Random) -> Vec<u32> {
-    let job = jobs::good(random);
-    Accepted::new(&job).expect("good job").words().split_off(18)
+    let (job, book) = jobs::good(random);
+    Accepted::new(&job, &book).expect("good job").words().split_off(18)
 }
 
 /// Batches of any sort, a few of them or as many as there may be.
@@ -312,12 +312,12 @@ mod tests {
         let (mut whole, mut cut, mut unseen, mut orphans) = (0, 0, 0, 0);
         for rate in [2, 5, 20, 100, 500, 1_000_000] {
             for _ in 0..100 {
-                let job = jobs::good(&mut random);
-                let accepted = Accepted::new(&job).unwrap();
+                let (job, book) = jobs::good(&mut random);
+                let accepted = Accepted::new(&job, &book).unwrap();
                 let batches = accepted.words().split_off(18);
                 let mut received = batches.clone();
                 damage(&mut random, &mut received, Damage::Three(rate));
-                let (pages, log) = (judge::sent(&job, &accepted.placement.slots), log_of_words(&received).unwrap());
+                let (pages, log) = (judge::sent(&job, &book, &accepted.placement.slots), log_of_words(&received).unwrap());
                 assert_eq!(judge::judge(&pages, &judge::flips(&batches, &received), &log), Ok(()));
                 let dashes = log.lines.iter().filter(|&&byte| byte == b'-').count();
                 cut += dashes;

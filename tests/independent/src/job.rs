@@ -1,7 +1,7 @@
 //! Page lines: a job's lines parsed, and page lines printed.
 
 use crate::text::{self, GROUP_DIGITS};
-use crate::{codeword, digit_value, number, Refusal, DIGITS};
+use crate::{book, codeword, digit_value, number, Refusal, DIGITS};
 
 pub const MOST_PAGES: usize = 48;
 
@@ -10,6 +10,8 @@ pub const ALPHANUMERIC: u32 = 5;
 /// Data pages, with function 1 and with function 2.
 pub const DATA_1: u32 = 6;
 pub const DATA_2: u32 = 7;
+/// A line's kind where the page is alphanumeric and its text a phrase of the book.
+pub const PHRASE: u32 = 9;
 pub const MOST_NUMERIC: usize = 60;
 pub const MOST_ALPHANUMERIC: usize = 240;
 pub const MOST_GROUPS: usize = 84;
@@ -67,8 +69,8 @@ impl Page {
         }
     }
 
-    /// The page of the line at a place, which comes without its newline, or what is wrong with it.
-    fn parse(line: &[u8], place: usize) -> Result<Page, Refusal> {
+    /// The page of the line at a place, which comes without its newline, or what is wrong with it. Without phrases there is no book.
+    fn parse(line: &[u8], place: usize, phrases: &[&[u8]]) -> Result<Page, Refusal> {
         let fault = |number| Refusal::new(number, place);
         let Some((identity, kind, text)) = split(line) else {
             return Err(fault(1));
@@ -78,6 +80,10 @@ impl Page {
         }
         if codeword::is_reserved(identity >> 3) {
             return Err(fault(3));
+        }
+        if kind == PHRASE && !phrases.is_empty() {
+            let phrase = phrase_number(&text).and_then(|number| phrases.get(number)).ok_or(fault(18))?;
+            return Ok(Page { identity, kind: ALPHANUMERIC, text: characters(phrase).expect("pairs") });
         }
         if kind > DATA_2 {
             return Err(fault(4));
@@ -128,6 +134,14 @@ fn length_fault(kind: u32, length: usize) -> Option<u32> {
     }
 }
 
+/// The number that a text of two decimal digits is.
+fn phrase_number(text: &[u8]) -> Option<usize> {
+    match text {
+        [tens @ b'0'..=b'9', ones @ b'0'..=b'9'] => Some(usize::from(10 * (tens - b'0') + (ones - b'0'))),
+        _ => None,
+    }
+}
+
 /// Identity, kind and text; no text is there if the line has no second space.
 fn split(line: &[u8]) -> Option<(u32, u32, Vec<u8>)> {
     if line.len() < 8 || line[6] != b' ' {
@@ -139,6 +153,8 @@ fn split(line: &[u8]) -> Option<(u32, u32, Vec<u8>)> {
         [] => Vec::new(),
         [b' ', digits @ ..] if !digits.is_empty() => match kind {
             DATA_1 | DATA_2 => all_digits(digits)?,
+            // these digits stand for no characters, but pairs are asked for
+            PHRASE => characters(digits).map(|_| digits.to_vec())?,
             _ => characters(digits)?,
         },
         _ => return None,
@@ -163,8 +179,9 @@ fn characters(digits: &[u8]) -> Option<Vec<u8>> {
     Some(text)
 }
 
-/// The pages of a job, or the first fault.
-pub fn parse(job: &[u8]) -> Result<Vec<Page>, Refusal> {
+/// The pages of a job with its book, or the first fault. The book's comes before all of the job.
+pub fn parse(job: &[u8], book: &[u8]) -> Result<Vec<Page>, Refusal> {
+    let phrases = book::phrases(book)?;
     let mut pages = Vec::new();
     let mut rest = job;
     while !rest.is_empty() {
@@ -175,7 +192,7 @@ pub fn parse(job: &[u8]) -> Result<Vec<Page>, Refusal> {
         let Some(length) = rest.iter().position(|&byte| byte == b'\n') else {
             return Err(Refusal::new(1, place));
         };
-        pages.push(Page::parse(&rest[..length], place)?);
+        pages.push(Page::parse(&rest[..length], place, &phrases)?);
         rest = &rest[length + 1..];
     }
     if pages.is_empty() {
@@ -208,10 +225,15 @@ pub(crate) fn print_pairs(text: &[u8], out: &mut Vec<u8>) {
 #[cfg(test)]
 mod tests {
     use super::*;
+    use crate::book::NO_BOOK;
 
     /// The number and the place; a position comes with number 6 alone.
     fn fault(job: impl AsRef<[u8]>) -> Option<(u32, usize)> {
-        let Refusal { number, place, position } = parse(job.as_ref()).err()?;
+        fault_with(job, NO_BOOK)
+    }
+
+    fn fault_with(job: impl AsRef<[u8]>, book: impl AsRef<[u8]>) -> Option<(u32, usize)> {
+        let Refusal { number, place, position } = parse(job.as_ref(), book.as_ref()).err()?;
         assert_eq!(position > 0, number == 6);
         Some((number, place))
     }
@@ -219,7 +241,7 @@ mod tests {
     #[test]
     fn a_line_there_and_back() {
         let job = b"000009 4 3132\n1FFFFF 3\n000009 5 417F20\n000009 6 12345\n000009 7 00000FEDCB\n";
-        let pages = parse(job).unwrap();
+        let pages = parse(job, NO_BOOK).unwrap();
         assert_eq!(pages[0], Page { identity: 9, kind: 4, text: b"12".to_vec() });
         assert_eq!(pages[1], Page { identity: 0x1F_FFFF, kind: 3, text: vec![] });
         assert_eq!(pages[3], Page { identity: 9, kind: 6, text: b"12345".to_vec() });
@@ -231,7 +253,7 @@ mod tests {
     /// Document 01's codewords, as those of data pages.
     #[test]
     fn codewords() {
-        let pages = parse(b"000000 6 84333\n000000 7 8433300000\n").unwrap();
+        let pages = parse(b"000000 6 84333\n000000 7 8433300000\n", NO_BOOK).unwrap();
         assert_eq!([pages[0].address(), pages[1].address()], [0x0000_0ED3, 0x0000_1376]);
         let mut words = vec![];
         pages.iter().for_each(|page| page.push_message(&mut words));
@@ -353,7 +375,8 @@ mod tests {
                     (_, 0) => Some(13),
                     _ => Some(14),
                 };
-                let number = |character| Page::parse(&line(kind, &vec![character; length]), 1).err().map(|refusal| refusal.number);
+                let number =
+                    |character| Page::parse(&line(kind, &vec![character; length]), 1, &[]).err().map(|refusal| refusal.number);
                 assert_eq!(number(b'1'), expected, "kind {kind}, {length} characters");
                 // a wrong length comes before a bad character
                 let with_bad = if length > 0 { expected.or(Some(6)) } else { expected };
@@ -385,7 +408,7 @@ mod tests {
                 let answer = |digit: &str| {
                     let space = if digits > 0 { " " } else { "" };
                     let job = format!("000000 {kind}{space}{}\n", digit.repeat(digits));
-                    parse(job.as_bytes()).map(|pages| pages[0].message_words()).map_err(|refusal| refusal.number)
+                    parse(job.as_bytes(), NO_BOOK).map(|pages| pages[0].message_words()).map_err(|refusal| refusal.number)
                 };
                 assert_eq!(answer("A"), expected, "{digits} digits");
                 assert_eq!(answer("a"), if digits > 0 { Err(1) } else { expected }, "{digits} digits");
@@ -417,12 +440,12 @@ mod tests {
                     text[length - 1] = last;
                     text[first] = 0;
                     let expected = Refusal { number: 6, place: 7, position: first + 1 };
-                    assert_eq!(Page::parse(&line(kind, &text), 7), Err(expected), "kind {kind}, {length} characters, {last}");
+                    assert_eq!(Page::parse(&line(kind, &text), 7, &[]), Err(expected), "kind {kind}, {length} characters, {last}");
                 }
             }
         }
         // characters are counted, neither digits nor columns; the line is the job's
-        let refusal = parse(b"000000 0\n000000 4 31322A332A20\n000000 4 2A\n").unwrap_err();
+        let refusal = parse(b"000000 0\n000000 4 31322A332A20\n000000 4 2A\n", NO_BOOK).unwrap_err();
         assert_eq!(refusal, Refusal { number: 6, place: 2, position: 3 });
     }
 
@@ -440,5 +463,98 @@ mod tests {
         assert_eq!(fault("000000 0\n000000 8\n000000 x\n"), Some((4, 2)));
         assert_eq!(fault(""), Some((9, 0)));
         assert_eq!(fault("\n"), Some((1, 1)));
+    }
+
+    /// "AB", "C" and "D".
+    const THREE: &str = "4142\n43\n44\n";
+
+    /// A book of so many phrases, in which no two are alike.
+    fn book_of(phrases: usize) -> String {
+        (0..phrases).map(|number| format!("{:02X}{:02X}\n", b'0' + number as u8 / 10, b'0' + number as u8 % 10)).collect()
+    }
+
+    #[test]
+    fn phrases() {
+        let pages = parse(b"000009 9 01\n1FFFFF 9 00\n000009 5 43\n000000 2\n", THREE.as_bytes()).unwrap();
+        assert_eq!(pages[0], Page { identity: 9, kind: ALPHANUMERIC, text: b"C".to_vec() });
+        assert_eq!(pages[1], Page { identity: 0x1F_FFFF, kind: ALPHANUMERIC, text: b"AB".to_vec() });
+        assert_eq!(pages[0], pages[2]);
+        assert_eq!(pages[0].function(), 3);
+        // every number of every size of book
+        for count in [1, 2, 9, 10, 11, 99, 100] {
+            let book = book_of(count);
+            for number in 0..100 {
+                let page = parse(format!("000009 9 {number:02}\n").as_bytes(), book.as_bytes());
+                let expected = Page { identity: 9, kind: ALPHANUMERIC, text: format!("{number:02}").into_bytes() };
+                assert_eq!(page, if number < count { Ok(vec![expected]) } else { Err(Refusal::new(18, 1)) });
+            }
+        }
+    }
+
+    #[test]
+    fn no_phrase() {
+        for (line, number) in [
+            ("000009 9\n", 18),
+            ("000009 9 03\n", 18),
+            ("000009 9 99\n", 18),
+            ("000009 9 0A\n", 18),
+            ("000009 9 A0\n", 18),
+            ("000009 9 FF\n", 18),
+            ("000009 9 0000\n", 18),
+            ("000009 9 0007\n", 18),
+            ("000009 9 000000\n", 18),
+            // number 1 still asks for pairs
+            ("000009 9 \n", 1),
+            ("000009 9 0\n", 1),
+            ("000009 9 7\n", 1),
+            ("000009 9 007\n", 1),
+            ("000009 9 0a\n", 1),
+            ("000009 9 0G\n", 1),
+            ("000009 9 00-\n", 1),
+            ("000009 9 00 \n", 1),
+            ("000009 9  00\n", 1),
+            ("000009 900\n", 1),
+            ("000009 9 00", 1),
+            ("200000 9 0\n", 1),
+            // what comes before 18, and other kinds
+            ("200000 9\n", 2),
+            ("200000 9 0A\n", 2),
+            ("1EA270 9 99\n", 3),
+            ("000009 8 00\n", 4),
+            ("000009 A\n", 4),
+            ("000009 0 00\n", 12),
+            ("000009 5\n", 13),
+        ] {
+            assert_eq!(fault_with(line, THREE), Some((number, 1)), "{line:?}");
+            assert_eq!(fault_with("000009 9 02\n".to_owned() + line, THREE), Some((number, 2)), "{line:?}");
+            // without a book, kind 9 is none of the kinds, whatever its text
+            let without = if number == 18 { 4 } else { number };
+            assert_eq!(fault(line), Some((without, 1)), "{line:?}");
+        }
+        assert_eq!(fault("000009 9 00\n"), Some((4, 1)));
+        // of a book of 100 phrases no number is left over
+        assert_eq!(fault_with("000009 9 99\n", book_of(100)), None);
+        assert_eq!(fault_with("000009 9 99\n", book_of(99)), Some((18, 1)));
+    }
+
+    /// The first faulty line decides, with 18 as with any other number.
+    #[test]
+    fn no_phrase_among_other_faults() {
+        assert_eq!(fault_with("000009 9 03\n000009 4 2A\n", THREE), Some((18, 1)));
+        assert_eq!(fault_with("000009 4 2A\n000009 9 03\n", THREE), Some((6, 1)));
+        assert_eq!(fault_with("000009 9 02\n000009 9\n000009 9 7\n", THREE), Some((18, 2)));
+        let many = "000009 9 00\n".repeat(48);
+        assert_eq!(fault_with(&many, THREE), None);
+        assert_eq!(fault_with(many + "000009 9 03\n", THREE), Some((8, 49)));
+    }
+
+    #[test]
+    fn a_bad_book_comes_first() {
+        for (book, place) in [("x", 1), ("41\n42", 2), ("\n", 1), (&(book_of(100) + "41\n"), 101)] {
+            for job in ["", "x", "\n", "000009 0\n", "000009 9 00\n", "000009 9\n", "200000 0\n", &"000009 0\n".repeat(49)] {
+                assert_eq!(fault_with(job, book), Some((19, place)), "{job:?} {book:?}");
+            }
+        }
+        assert_eq!(fault_with("", THREE), Some((9, 0)));
     }
 }

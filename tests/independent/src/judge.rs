@@ -6,20 +6,32 @@ use crate::placement::BATCH_WORDS;
 use crate::reader::{Changes, Log};
 
 /// A page that was sent.
-pub struct Sent<'a> {
-    /// Its line in the job, newline included: the one that is printed where nothing is damaged.
-    line: &'a [u8],
+pub struct Sent {
+    /// The line that is printed where nothing is damaged, newline included.
+    pub line: Vec<u8>,
     message_words: usize,
     /// The slot of its address, as sending reports it.
     slot: usize,
 }
 
-/// The pages of a good job, in job order, with the slots that were reported for them.
-pub fn sent<'a>(job: &'a [u8], slots: &[u32]) -> Vec<Sent<'a>> {
-    let pages = job::parse(job).expect("good job");
-    let lines = job.split_inclusive(|&byte| byte == b'\n');
+/// The pages of a good job with its book, in job order, with the slots that were reported for them.
+pub fn sent(job: &[u8], book: &[u8], slots: &[u32]) -> Vec<Sent> {
+    let pages = job::parse(job, book).expect("good job");
+    let lines = lines(job).map(|line| undamaged(line, book));
     let sent = lines.zip(pages).zip(slots);
     sent.map(|((line, page), &slot)| Sent { line, message_words: page.message_words(), slot: slot as usize }).collect()
+}
+
+/// The line in the job itself or, of a phrase, the alphanumeric page's with the line that the number has in the book.
+fn undamaged(line: &[u8], book: &[u8]) -> Vec<u8> {
+    let [identity @ .., b'9', b' ', tens, ones, b'\n'] = line else { return line.to_vec() };
+    let number = usize::from(tens - b'0') * 10 + usize::from(ones - b'0');
+    [identity, b"5 ", lines(book).nth(number).expect("a phrase")].concat()
+}
+
+/// Lines with their newlines.
+fn lines(text: &[u8]) -> impl Iterator<Item = &[u8]> {
+    text.split_inclusive(|&byte| byte == b'\n')
 }
 
 /// How many bits are flipped: at most three of each slot's word, and at most two of a sync.
@@ -88,7 +100,7 @@ pub fn judge(sent: &[Sent], flips: &Flips, read: &Log) -> Result<(), Broken> {
     let mut pages = sent.iter().map(|sent| Received::new(sent, slots)).collect::<Option<Vec<_>>>().ok_or(Broken::Slots)?;
     pages.sort_by_key(|page| page.sent.slot);
     let with_line = || pages.iter().filter(|page| page.address_read());
-    let lines = || read.lines.split_inclusive(|&byte| byte == b'\n');
+    let lines = || lines(&read.lines);
 
     holds(read.lost as usize == slots.iter().filter(|&&flips| flips == 3).count(), Broken::Lost)?;
     holds(lines().count() == with_line().count(), Broken::OneLineEach)?;
@@ -115,7 +127,7 @@ fn is_read(flips: &u32) -> bool {
     *flips <= 2
 }
 
-impl Sent<'_> {
+impl Sent {
     /// The six digits and the space behind them.
     fn identity(&self) -> &[u8] {
         &self.line[..7]
@@ -147,7 +159,7 @@ impl Sent<'_> {
 
 /// A page and the flips that matter to it.
 struct Received<'a> {
-    sent: &'a Sent<'a>,
+    sent: &'a Sent,
     /// Of its address and its message codewords.
     own: &'a [u32],
     /// Of the slot behind them; the last slot of all has none behind it.
@@ -196,12 +208,14 @@ impl<'a> Received<'a> {
 #[cfg(test)]
 mod tests {
     use super::*;
+    use crate::book::NO_BOOK;
     use crate::reader::log_of_words;
     use crate::send::Accepted;
 
-    /// A job, the slots that are lost, the lines that are read, the orphans, and the bits changed.
+    /// A job with its book, the slots that are lost, the lines that are read, the orphans, and the bits changed.
     struct Day {
         job: &'static [u8],
+        book: &'static [u8],
         lost: &'static [usize],
         lines: &'static str,
         orphans: u32,
@@ -212,6 +226,7 @@ mod tests {
     /// last address.
     const FIRST: Day = Day {
         job: b"000004 4 3132\n000000 4 313233343536\n000001 2\n000002 5 4142434445464748\n000007 0\n00000F 3\n000006 5 41\n",
+        book: NO_BOOK,
         lost: &[2, 5, 11, 15],
         lines: "000000 4 3132333435-\n000001 2\n000002 3-\n000004 4 3132-\n000006 5 41\n000007 0-\n",
         orphans: 2,
@@ -222,6 +237,7 @@ mod tests {
     /// the first of one, the second of one, within a character, and an address.
     const SECOND: Day = Day {
         job: b"000000 4 202020202031\n000002 4 3132\n000003 5 4142434445464748\n000006 4 31323334353637\n000007 1\n000008 1\n000008 2\n00000F 0\n000017 3\n",
+        book: NO_BOOK,
         lost: &[2, 5, 9, 12],
         lines: "000000 4-\n000002 0-\n000003 5 4142-\n000007 1\n000008 1\n000008 2\n00000F 0\n000017 3\n",
         orphans: 3,
@@ -232,10 +248,22 @@ mod tests {
     /// one, and an address.
     const THIRD: Day = Day {
         job: b"000000 6 1234567890ABCDE\n000002 7 0000000000\n000004 6 FFFFF\n000006 7 ABCDE\n000007 6 12345\n",
+        book: NO_BOOK,
         lost: &[3, 6, 11, 15],
         lines: "000000 6 1234567890-\n000002 2-\n000004 6 FFFFF-\n000006 7 ABCDE\n",
         orphans: 2,
         changed: Changes { slots: 26, syncs: 1 },
+    };
+
+    /// Phrases with addresses in slots 0, 5, 8 and 12, and a tone in the pause after the last. Lost are the second word of one, the
+    /// only word of one, the slot behind one, and the slot behind the tone.
+    const FOURTH: Day = Day {
+        job: b"000000 9 02\n000002 9 00\n000004 9 01\n000006 9 03\n000007 3\n",
+        book: b"5A\n4142434445\n4142434445464748\n7F\n",
+        lost: &[2, 6, 11, 15],
+        lines: "000000 5 4142-\n000002 3-\n000004 5 4142434445-\n000006 5 7F\n000007 3-\n",
+        orphans: 1,
+        changed: Changes { slots: 11, syncs: 1 },
     };
 
     impl Day {
@@ -252,7 +280,7 @@ mod tests {
 
         /// The reported slots, the flips, and what is read.
         fn read(&self) -> (Vec<u32>, Flips, Log) {
-            let accepted = Accepted::new(self.job).unwrap();
+            let accepted = Accepted::new(self.job, self.book).unwrap();
             let batches = accepted.words().split_off(18);
             let received = self.received(&batches);
             (accepted.placement.slots, flips(&batches, &received), log_of_words(&received).unwrap())
@@ -265,7 +293,7 @@ mod tests {
             let lost = self.lost.len() as u32;
             assert_eq!(log, Log { lines: self.lines.into(), pages, lost, orphans: self.orphans, changed: self.changed });
             change(&mut log);
-            judge(&sent(self.job, &slots), &flips, &log)
+            judge(&sent(self.job, self.book, &slots), &flips, &log)
         }
 
         /// The same where a part of the lines, which is there once, is replaced, and the lines are counted rightly.
@@ -274,7 +302,7 @@ mod tests {
             assert_ne!(part, by);
             self.judged(|log| {
                 log.lines = self.lines.replace(part, by).into();
-                log.pages = log.lines.split_inclusive(|&byte| byte == b'\n').count() as u32;
+                log.pages = lines(&log.lines).count() as u32;
             })
         }
     }
@@ -284,6 +312,7 @@ mod tests {
         assert_eq!(FIRST.judged(|_| ()), Ok(()));
         assert_eq!(SECOND.judged(|_| ()), Ok(()));
         assert_eq!(THIRD.judged(|_| ()), Ok(()));
+        assert_eq!(FOURTH.judged(|_| ()), Ok(()));
         // one missing, doubled, added; one for the page whose address is lost
         assert_eq!(FIRST.with("000001 2\n", ""), Err(Broken::OneLineEach));
         assert_eq!(FIRST.with("000002 3-\n", ""), Err(Broken::OneLineEach));
@@ -370,6 +399,26 @@ mod tests {
     }
 
     #[test]
+    fn phrases() {
+        // neither the job's own line nor another phrase
+        assert_eq!(FOURTH.with("5 7F\n", "9 03\n"), Err(Broken::Whole));
+        assert_eq!(FOURTH.with("5 7F\n", "5 5A\n"), Err(Broken::Whole));
+        assert_eq!(FOURTH.with("5 7F\n", "5 03\n"), Err(Broken::Whole));
+        // no message word read
+        assert_eq!(FOURTH.with("000002 3-", "000002 5-"), Err(Broken::Kind));
+        assert_eq!(FOURTH.with("000002 3-", "000002 9-"), Err(Broken::Kind));
+        // some read
+        assert_eq!(FOURTH.with("000000 5", "000000 9"), Err(Broken::Kind));
+        assert_eq!(FOURTH.with("000000 5 4142-", "000000 3-"), Err(Broken::Kind));
+        for text in ["", " 41", " 4142434445464748"] {
+            assert_eq!(FOURTH.with("000000 5 4142-", &format!("000000 5{text}-")), Ok(()));
+        }
+        for text in ["02", "5A", "414", "414243444546474849"] {
+            assert_eq!(FOURTH.with("5 4142-", &format!("5 {text}-")), Err(Broken::Text), "{text}");
+        }
+    }
+
+    #[test]
     fn counts() {
         type Count = fn(&mut Log) -> &mut u32;
         let counts: [(Count, Broken); 5] = [
@@ -390,7 +439,7 @@ mod tests {
         let (mut slots, flips, log) = FIRST.read();
         for slot in [16, 15, 14, u32::MAX] {
             slots[1] = slot;
-            assert_eq!(judge(&sent(FIRST.job, &slots), &flips, &log), Err(Broken::Slots));
+            assert_eq!(judge(&sent(FIRST.job, FIRST.book, &slots), &flips, &log), Err(Broken::Slots));
         }
     }
 }

@@ -1,6 +1,7 @@
 //! Document 01 in plain Rust, with what document 02 asks, written from the documents alone: the yardstick that the proved library is compared with, and the
 //! baseline of the benchmarks. It shares no line with the library and has no proofs.
 
+pub mod book;
 pub mod codeword;
 pub mod job;
 pub mod judge;
@@ -12,7 +13,7 @@ pub mod send;
 pub mod state;
 pub mod text;
 
-/// Why work is declined: a number of document 01's table as have it, and the place that goes with it.
+/// Why work is declined: a number of document 01's table as have it, and the place that goes with it.
 #[derive(Clone, Copy, Debug, PartialEq, Eq)]
 pub struct Refusal {
     pub number: u32,

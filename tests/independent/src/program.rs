@@ -1,17 +1,19 @@
-//! The sending and the reading program: what each prints for its standard input.
+//! The sending and the reading program: what each prints for its standard input, and the sending program for a phrase book too.
 
+use crate::book::NO_BOOK;
 use crate::listing::{self, BYTES_A_WORD};
 use crate::reader;
 use crate::send::Accepted;
 use crate::Refusal;
+use std::ffi::OsString;
 use std::io::{self, Read, Write};
 
 pub const MOST_INPUT: usize = 65_536;
 
-/// What the sending program prints for a job.
-pub fn sending(input: &[u8]) -> Vec<u8> {
+/// What the sending program prints for a job with its book.
+pub fn sending(input: &[u8], book: &[u8]) -> Vec<u8> {
     answer(input, |job| {
-        let words = Accepted::new(job)?.words();
+        let words = Accepted::new(job, book)?.words();
         let mut out = vec![0; BYTES_A_WORD * words.len()];
         listing::write(&words, &mut out);
         Ok(out)
@@ -23,7 +25,7 @@ pub fn reading(input: &[u8]) -> Vec<u8> {
     answer(input, |listing| Ok(reader::log_of_listing(listing)?.lines))
 }
 
-fn answer(input: &[u8], work: fn(&[u8]) -> Result<Vec<u8>, Refusal>) -> Vec<u8> {
+fn answer(input: &[u8], work: impl FnOnce(&[u8]) -> Result<Vec<u8>, Refusal>) -> Vec<u8> {
     let result = if input.len() > MOST_INPUT { Err(Refusal::new(24, 0)) } else { work(input) };
     result.unwrap_or_else(|refusal| refused(refusal).into_bytes())
 }
@@ -33,6 +35,15 @@ fn refused(Refusal { number, place, position }: Refusal) -> String {
     match number {
         6 => format!("refused {number} place {place} {position}\n"),
         _ => format!("refused {number} place {place}\n"),
+    }
+}
+
+/// The book that the sending program's arguments name: that of a file, or none.
+pub fn named_book(arguments: &[OsString]) -> io::Result<Vec<u8>> {
+    match arguments {
+        [] => Ok(NO_BOOK.to_vec()),
+        [path] => std::fs::read(path),
+        _ => Err(io::Error::other("at most one book")),
     }
 }
 
@@ -52,31 +63,41 @@ mod tests {
         let job = b"000009 4 3132\n";
         let idle = "7A89C197 7A89C197\n";
         let expected = "AAAAAAAA AAAAAAAA\n".repeat(9) + "7CD215D8\n" + idle + "000026EC C2199DEA\n" + &idle.repeat(6);
-        let listing = sending(job);
+        let listing = sending(job, NO_BOOK);
         assert_eq!(String::from_utf8(listing.clone()).unwrap(), expected);
         assert_eq!(expected.lines().count(), 18);
         assert_eq!(reading(&listing), job);
     }
 
     #[test]
+    fn a_phrase_there_and_back() {
+        let listing = sending(b"00000F 9 00\n000009 9 01\n", b"4F4B\n48656C6C6F\n");
+        assert_eq!(reading(&listing), b"000009 5 48656C6C6F\n00000F 5 4F4B\n");
+    }
+
+    #[test]
     fn page_lines_in_slot_order() {
-        let listing = sending(b"000006 1\n000000 0\n000003 4 31\n000005 7 00000\n000002 6 12345\n");
+        let listing = sending(b"000006 1\n000000 0\n000003 4 31\n000005 7 00000\n000002 6 12345\n", NO_BOOK);
         assert_eq!(reading(&listing), b"000000 0\n000002 6 12345\n000003 4 31\n000005 7 00000\n000006 1\n");
     }
 
     #[test]
     fn refusals() {
-        assert_eq!(sending(b""), b"refused 9 place 0\n");
-        assert_eq!(sending(b"000009 4 3132"), b"refused 1 place 1\n");
-        assert_eq!(sending(b"000009 0\n1EA270 0\n"), b"refused 3 place 2\n");
-        assert_eq!(sending(b"000009 0\n000009 3 31\n"), b"refused 12 place 2\n");
-        assert_eq!(sending(b"000009 4\n"), b"refused 13 place 1\n");
-        assert_eq!(sending(format!("000009 4 {}\n", "2A".repeat(61)).as_bytes()), b"refused 14 place 1\n");
-        assert_eq!(sending(b"000009 0\n000009 6 3132\n"), b"refused 25 place 2\n");
-        assert_eq!(sending(b"000009 0\n000009 4 31322A2A20\n"), b"refused 6 place 2 3\n");
-        assert_eq!(sending(b"000009 4 3120\n"), b"refused 7 place 1\n");
+        let sent = |job: &[u8]| sending(job, NO_BOOK);
+        assert_eq!(sent(b""), b"refused 9 place 0\n");
+        assert_eq!(sent(b"000009 4 3132"), b"refused 1 place 1\n");
+        assert_eq!(sent(b"000009 0\n1EA270 0\n"), b"refused 3 place 2\n");
+        assert_eq!(sent(b"000009 0\n000009 3 31\n"), b"refused 12 place 2\n");
+        assert_eq!(sent(b"000009 4\n"), b"refused 13 place 1\n");
+        assert_eq!(sent(format!("000009 4 {}\n", "2A".repeat(61)).as_bytes()), b"refused 14 place 1\n");
+        assert_eq!(sent(b"000009 0\n000009 6 3132\n"), b"refused 25 place 2\n");
+        assert_eq!(sent(b"000009 0\n000009 4 31322A2A20\n"), b"refused 6 place 2 3\n");
+        assert_eq!(sent(b"000009 4 3120\n"), b"refused 7 place 1\n");
+        assert_eq!(sent(b"000009 9 00\n"), b"refused 4 place 1\n");
+        assert_eq!(sending(b"000009 9 00\n000009 9 01\n", b"41\n"), b"refused 18 place 2\n");
+        assert_eq!(sending(b"", b"41\n42"), b"refused 19 place 2\n");
         assert_eq!(reading(b""), b"refused 21 place 1\n");
-        let listing = sending(b"000009 0\n");
+        let listing = sending(b"000009 0\n", NO_BOOK);
         let bad_sync = String::from_utf8(listing).unwrap().replace("7CD215D8", "7CD215DF");
         assert_eq!(reading(bad_sync.as_bytes()), b"refused 22 place 1\n");
     }
@@ -84,7 +105,8 @@ mod tests {
     #[test]
     fn long_inputs() {
         let most = [b'x'; MOST_INPUT + 1];
-        for program in [sending, reading] {
+        let programs: [fn(&[u8]) -> Vec<u8>; 3] = [|job| sending(job, NO_BOOK), |job| sending(job, b"4"), reading];
+        for program in programs {
             assert_ne!(program(&most[1..]), b"refused 24 place 0\n");
             assert_eq!(program(&most), b"refused 24 place 0\n");
         }

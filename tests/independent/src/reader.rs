@@ -166,6 +166,7 @@ pub fn read_listing(listing: &[u8], out: &mut [u8]) -> Result<Reading, Refusal> 
 #[cfg(test)]
 mod tests {
     use super::*;
+    use crate::book::NO_BOOK;
     use crate::codeword::{address, encode, message, IDLE, SYNC};
     use crate::send::Accepted;
 
@@ -198,10 +199,13 @@ mod tests {
     #[test]
     fn what_was_sent_is_read() {
         let job = "000009 4 3132\n00000A 6 12345\n000004 7 00000FFFFF\n00000F 5 41\n000007 2\n";
-        let words = Accepted::new(job.as_bytes()).unwrap().words();
+        let words = Accepted::new(job.as_bytes(), NO_BOOK).unwrap().words();
         assert_eq!(log(&words[18..]), (job.into(), 5, 0, 0));
         let flipped: Vec<u32> = words[18..].iter().enumerate().map(|(i, word)| word ^ 1 << (i % 32) ^ 1 << (i * 7 % 31)).collect();
         assert_eq!(log(&flipped), log(&words[18..]));
+        // a phrase is read as an alphanumeric page
+        let words = Accepted::new(b"00000A 9 01\n00000F 9 00\n", b"4142\n20\n").unwrap().words();
+        assert_eq!(log(&words[18..]), ("00000A 5 20\n00000F 5 4142\n".into(), 2, 0, 0));
     }
 
     #[test]

@@ -20,8 +20,8 @@ pub struct Accepted {
 }
 
 impl Accepted {
-    pub fn new(job: &[u8]) -> Result<Accepted, Refusal> {
-        let pages = job::parse(job)?;
+    pub fn new(job: &[u8], book: &[u8]) -> Result<Accepted, Refusal> {
+        let pages = job::parse(job, book)?;
         let placement = placement::place(&pages);
         Ok(Accepted { pages, placement })
     }
@@ -53,8 +53,8 @@ impl Accepted {
 }
 
 /// A job's words and address slots, over the front of the lent slices.
-pub fn send(job: &[u8], words: &mut [u32], slots: &mut [u32]) -> Result<Report, Refusal> {
-    let accepted = Accepted::new(job)?;
+pub fn send(job: &[u8], book: &[u8], words: &mut [u32], slots: &mut [u32]) -> Result<Report, Refusal> {
+    let accepted = Accepted::new(job, book)?;
     let count = accepted.placement.words();
     let (Some(words), Some(slots)) = (words.get_mut(..count), slots.get_mut(..accepted.pages.len())) else {
         return Err(TOO_SHORT);
@@ -65,8 +65,8 @@ pub fn send(job: &[u8], words: &mut [u32], slots: &mut [u32]) -> Result<Report, 
 }
 
 /// A job's listing, over the front of the lent slice, and its length.
-pub fn list(job: &[u8], out: &mut [u8]) -> Result<usize, Refusal> {
-    let accepted = Accepted::new(job)?;
+pub fn list(job: &[u8], book: &[u8], out: &mut [u8]) -> Result<usize, Refusal> {
+    let accepted = Accepted::new(job, book)?;
     let bytes = listing::BYTES_A_WORD * accepted.placement.words();
     let out = out.get_mut(..bytes).ok_or(TOO_SHORT)?;
     listing::write(&accepted.words(), out);
@@ -96,10 +96,10 @@ struct Outgoing {
 }
 
 impl Sender {
-    pub fn start(job: &[u8]) -> Result<Sender, Refusal> {
+    pub fn start(job: &[u8], book: &[u8]) -> Result<Sender, Refusal> {
         let mut message_words = Vec::new();
         let mut unsent = Vec::new();
-        for page in job::parse(job)? {
+        for page in job::parse(job, book)? {
             let start = message_words.len();
             page.push_message(&mut message_words);
             let message = start..message_words.len();
@@ -147,12 +147,13 @@ impl Iterator for Sender {
 #[cfg(test)]
 mod tests {
     use super::*;
+    use crate::book::NO_BOOK;
 
     #[test]
     fn the_example() {
         let mut words = [1; 40];
         let mut slots = [1; 2];
-        let report = send(b"000009 4 3132\n", &mut words, &mut slots).unwrap();
+        let report = send(b"000009 4 3132\n", NO_BOOK, &mut words, &mut slots).unwrap();
         assert_eq!(report, Report { batches: 1, words: 35 });
         assert_eq!(words[..18], [PREAMBLE; 18]);
         assert_eq!(words[18..24], [SYNC, IDLE, IDLE, 0x0000_26EC, 0xC219_9DEA, IDLE]);
@@ -167,7 +168,7 @@ mod tests {
         for (word_count, slot_count, good) in [(35, 2, true), (34, 2, false), (35, 1, false), (0, 0, false), (36, 3, true)] {
             let mut words = vec![7; word_count];
             let mut slots = vec![7; slot_count];
-            let answer = send(job, &mut words, &mut slots);
+            let answer = send(job, NO_BOOK, &mut words, &mut slots);
             if good {
                 assert_eq!(answer, Ok(Report { batches: 1, words: 35 }));
                 assert!(words[35..].iter().chain(&slots[2..]).all(|&word| word == 7));
@@ -177,11 +178,28 @@ mod tests {
             }
         }
         let mut out = [7; 314];
-        assert_eq!(list(job, &mut out), Err(Refusal::new(10, 0)));
+        assert_eq!(list(job, NO_BOOK, &mut out), Err(Refusal::new(10, 0)));
         assert_eq!(out, [7; 314]);
-        // a fault of the job comes before the buffer's
-        assert_eq!(send(b"x", &mut [], &mut []), Err(Refusal::new(1, 1)));
-        assert_eq!(list(b"", &mut []), Err(Refusal::new(9, 0)));
+        // a fault of the job comes before the buffer's, and one of the book before both
+        assert_eq!(send(b"x", NO_BOOK, &mut [], &mut []), Err(Refusal::new(1, 1)));
+        assert_eq!(list(b"", NO_BOOK, &mut []), Err(Refusal::new(9, 0)));
+        assert_eq!(list(b"", b"41\n42", &mut []), Err(Refusal::new(19, 2)));
+    }
+
+    /// A phrase goes out as the alphanumeric page that has it for its text, whichever call sends it.
+    #[test]
+    fn a_phrase_is_sent() {
+        let book = b"41\n4142434445464748\n";
+        let job = b"000002 9 01\n000009 9 00\n000002 2\n";
+        let written_out = b"000002 5 4142434445464748\n000009 5 41\n000002 2\n";
+        let words = Accepted::new(written_out, NO_BOOK).unwrap().words();
+        assert_eq!(Accepted::new(job, book).unwrap().words(), words);
+        assert!(Sender::start(job, book).unwrap().eq(words));
+        let answers = [(&job[..], &book[..]), (written_out, NO_BOOK)].map(|(job, book)| {
+            let (mut words, mut slots, mut out) = ([0; 60], [0; 3], [0; 600]);
+            (send(job, book, &mut words, &mut slots).unwrap(), words, slots, list(job, book, &mut out).unwrap(), out)
+        });
+        assert_eq!(answers[0], answers[1]);
     }
 
     #[test]
@@ -199,15 +217,15 @@ mod tests {
             "000001 4 31\n000002 4 31\n000002 2\n".to_owned(),
             "000001 6 1234567890\n000002 7 ABCDE\n000002 2\n".to_owned(),
         ] {
-            let words = Accepted::new(job.as_bytes()).unwrap().words();
-            let mut sender = Sender::start(job.as_bytes()).unwrap();
+            let words = Accepted::new(job.as_bytes(), NO_BOOK).unwrap().words();
+            let mut sender = Sender::start(job.as_bytes(), NO_BOOK).unwrap();
             let steps: Vec<u32> = sender.by_ref().collect();
             assert_eq!(steps, words, "{job}");
             assert_eq!(sender.next(), None);
             assert_eq!(sender.next(), None);
             assert_eq!(words.iter().filter(|&&word| word == SYNC).count(), (words.len() - 18) / 17);
         }
-        assert_eq!(Sender::start(b"").err(), Some(Refusal::new(9, 0)));
+        assert_eq!(Sender::start(b"", NO_BOOK).err(), Some(Refusal::new(9, 0)));
     }
 
     /// Three pages, tones or messages, in frames about a batch's end; the messages end about these frames.
@@ -226,8 +244,8 @@ mod tests {
             for two in &lines {
                 for three in &lines {
                     let job = [&one[..], two, three].concat();
-                    let words = Accepted::new(&job).unwrap().words();
-                    assert!(Sender::start(&job).unwrap().eq(words), "{}", String::from_utf8_lossy(&job));
+                    let words = Accepted::new(&job, NO_BOOK).unwrap().words();
+                    assert!(Sender::start(&job, NO_BOOK).unwrap().eq(words), "{}", String::from_utf8_lossy(&job));
                 }
             }
         }

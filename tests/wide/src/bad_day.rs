@@ -1,11 +1,12 @@
 //! A bad day: the transmission of a job is damaged, by at most three flipped bits in a slot's word and two in a sync, and
 //! what the library reads of it is judged.
 
-use crate::compare::{corrects, shown, Comparison, Difference, Outcome};
+use crate::compare::{corrects, shown, shown_job, Comparison, Difference, Outcome};
 use crate::engine::Engine;
 use crate::lent::Unit;
 use generate::words::{damage, Damage, BATCH};
 use generate::{listings, Random};
+use independent::book::NO_BOOK;
 use independent::judge::{self, Sent};
 use independent::placement::PREAMBLE_WORDS;
 use independent::reader::{Changes, Log};
@@ -16,46 +17,52 @@ const RATES: &[usize] = &[2, 5, 20, 100, 500];
 /// One transmission in so many is read slowly too.
 const SLOW_DAYS: usize = 10;
 
-/// Jobs of one batch, for every set of lost slots.
-const SHORT: [&[u8]; 3] = [
+/// Two phrases.
+const BOOK: &[u8] = b"4142434445464748494A4B4C4D4E4F505152535455\n4142434445464748\n";
+
+/// Jobs of one batch with their books, for every set of lost slots.
+const SHORT: [(&[u8], &[u8]); 3] = [
     // in slot order: a numeric page whose first message word is spaces, a tone in its pause, directly behind that an alphanumeric
-    // page, an idle pause and directly behind it a numeric page, and a tone in each of the last two slots
-    b"00000F 2\n00000C 4 3132\n00000A 5 4142434445464748\n00000F 3\n000009 1\n000008 4 202020202031\n",
+    // page, whose text is a phrase, an idle pause and directly behind it a numeric page, and a tone in each of the last two slots
+    (b"00000F 2\n00000C 4 3132\n00000A 9 01\n00000F 3\n000009 1\n000008 4 202020202031\n", BOOK),
     // a message up to the last slot but one, and in its pause, the last slot, a tone
-    b"000003 5 4142434445464748494A4B4C4D4E4F505152535455\n000007 0\n",
+    (b"000003 5 4142434445464748494A4B4C4D4E4F505152535455\n000007 0\n", NO_BOOK),
     // data pages: in slot order one of two groups, a tone with its function in its pause, directly behind that one of three, an
     // idle pause and directly behind it one of a group, and a tone in the last slot but one
-    b"00000F 2\n00000C 6 33333\n00000A 7 00000FFFFFABCDE\n000009 1\n000008 6 1234567890\n",
+    (b"00000F 2\n00000C 6 33333\n00000A 7 00000FFFFFABCDE\n000009 1\n000008 6 1234567890\n", NO_BOOK),
 ];
 
-/// Jobs of two batches, for many sets of lost slots.
-const LONGER: [&[u8]; 4] = [
+/// Jobs of two batches with their books, for many sets of lost slots.
+const LONGER: [(&[u8], &[u8]); 5] = [
     // a message that runs on behind a sync, and a tone in its pause
-    b"000007 4 31323334353637\n000000 1\n000008 2\n000010 3\n",
+    (b"000007 4 31323334353637\n000000 1\n000008 2\n000010 3\n", NO_BOOK),
     // messages that end in the last slot: a batch of idles follows
-    b"00000F 4 31\n",
-    b"000000 5 4142434445464748494A4B4C4D4E4F505152535455565758595A6162636465666768696A6B6C6D6E6F70\n",
+    (b"00000F 4 31\n", NO_BOOK),
+    (b"000000 5 4142434445464748494A4B4C4D4E4F505152535455565758595A6162636465666768696A6B6C6D6E6F70\n", NO_BOOK),
     // a data page that ends in the last slot and one that waits behind it
-    b"00000F 7 ABCDE\n000000 1\n000008 2\n000010 6 1234567890\n",
+    (b"00000F 7 ABCDE\n000000 1\n000008 2\n000010 6 1234567890\n", NO_BOOK),
+    // two phrases, one of which runs on behind a sync, and a tone in its pause
+    (b"000007 9 01\n000009 9 00\n000001 3\n", BOOK),
 ];
 
 /// A job as the library sent it.
 struct Transmission<'a> {
     job: &'a [u8],
-    pages: Vec<Sent<'a>>,
+    book: &'a [u8],
+    pages: Vec<Sent>,
     /// The words behind the preamble.
     batches: Vec<u32>,
 }
 
 impl<'a> Transmission<'a> {
-    fn new(job: &'a [u8]) -> Result<Self, Difference> {
+    fn new(job: &'a [u8], book: &'a [u8]) -> Result<Self, Difference> {
         let (mut words, mut slots) = (vec![0; card::WORDS], vec![0; card::PAGES]);
-        let report = card::send(job, &mut words, &mut slots);
+        let report = card::send(job, book, &mut words, &mut slots);
         if report.number != 0 {
-            return Err(Difference(format!("bad day: sending answers {report:?}\njob:\n{}", shown(job))));
+            return Err(Difference(format!("bad day: sending answers {report:?}\n{}", shown_job(job, book))));
         }
         words.truncate(report.words as usize);
-        Ok(Transmission { job, pages: judge::sent(job, &slots), batches: words.split_off(PREAMBLE_WORDS) })
+        Ok(Transmission { job, book, pages: judge::sent(job, book, &slots), batches: words.split_off(PREAMBLE_WORDS) })
     }
 
     /// Each received word is corrected to the one that was sent, where it has at most two flips, and else refused.
@@ -73,7 +80,7 @@ impl<'a> Transmission<'a> {
     /// What the library reads of the received words must be as R-9 has it. `how` says how they were read.
     fn judged(&self, received: &[u32], how: &str, read: impl FnOnce(&mut [u8]) -> card::Reading) -> Outcome {
         // no line is longer than its page's own and a `-`
-        let mut out = vec![0; self.job.len() + self.pages.len()];
+        let mut out = vec![0; self.pages.iter().map(|page| page.line.len() + 1).sum()];
         let reading = read(&mut out);
         if reading.number != 0 {
             return Err(self.wrong(received, &format!("{how}: reading answers {reading:?}")));
@@ -94,30 +101,30 @@ impl<'a> Transmission<'a> {
             _ => format!("slot {} {sent:08X} {received:08X}, {} flips\n", i - i / BATCH - 1, (sent ^ received).count_ones()),
         };
         let words: String = words.map(shown_word).collect();
-        Difference(format!("bad day: {what}\njob:\n{}\nwords sent and received:\n{words}", shown(self.job)))
+        Difference(format!("bad day: {what}\n{}\nwords sent and received:\n{words}", shown_job(self.job, self.book)))
     }
 }
 
 impl Comparison {
-    /// A good job, and damage at random.
-    pub fn bad_day(&mut self, job: &[u8]) -> Outcome {
-        self.random_damage(&Transmission::new(job)?)
+    /// A good job with its book, and damage at random.
+    pub fn bad_day(&mut self, job: &[u8], book: &[u8]) -> Outcome {
+        self.random_damage(&Transmission::new(job, book)?)
     }
 
     /// Short jobs with every set of lost slots, longer ones with many.
     pub fn bad_day_limits(&mut self) -> Outcome {
-        for job in SHORT {
-            self.job(job)?;
-            let transmission = Transmission::new(job)?;
+        for (job, book) in SHORT {
+            self.job(job, book)?;
+            let transmission = Transmission::new(job, book)?;
             for lost in 0..1 << 16 {
                 let mut received = transmission.batches.clone();
                 lose(&mut self.random, &mut received, lost);
                 self.damaged(&transmission, &received)?;
             }
         }
-        for job in LONGER {
-            self.job(job)?;
-            let transmission = Transmission::new(job)?;
+        for (job, book) in LONGER {
+            self.job(job, book)?;
+            let transmission = Transmission::new(job, book)?;
             for _ in 0..3000 {
                 self.random_damage(&transmission)?;
             }
@@ -163,8 +170,8 @@ mod tests {
     use independent::send::Accepted;
 
     /// The address slots in job order, the number of batches, and the message words.
-    fn placed(job: &[u8]) -> (Vec<u32>, u32, Vec<usize>) {
-        let Accepted { pages, placement: Placement { slots, batches } } = Accepted::new(job).unwrap();
+    fn placed((job, book): (&[u8], &[u8])) -> (Vec<u32>, u32, Vec<usize>) {
+        let Accepted { pages, placement: Placement { slots, batches } } = Accepted::new(job, book).unwrap();
         (slots, batches, pages.iter().map(|page| page.message_words()).collect())
     }
 
@@ -177,6 +184,7 @@ mod tests {
         assert_eq!(placed(LONGER[1]), (vec![14], 2, vec![1]));
         assert_eq!(placed(LONGER[2]), (vec![0], 2, vec![15]));
         assert_eq!(placed(LONGER[3]), (vec![14, 0, 1, 17], 2, vec![1, 0, 0, 2]));
+        assert_eq!(placed(LONGER[4]), (vec![14, 2, 18], 2, vec![3, 8, 0]));
     }
 
     #[test]

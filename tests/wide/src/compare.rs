@@ -61,36 +61,36 @@ impl Comparison {
         Ok(())
     }
 
-    /// A job sent as words and listed, each with buffers of several lengths, and stepped through.
-    pub fn job(&mut self, job: &[u8]) -> Outcome {
-        let (words, pages) = match Accepted::new(job) {
+    /// A job with its book sent as words and listed, each with buffers of several lengths, and stepped through.
+    pub fn job(&mut self, job: &[u8], book: &[u8]) -> Outcome {
+        let (words, pages) = match Accepted::new(job, book) {
             Ok(accepted) => (accepted.placement.words(), accepted.pages.len()),
             Err(_) => (self.random.below(60), self.random.below(60)),
         };
-        self.send(job, words, pages)?;
+        self.send(job, book, words, pages)?;
         let lengths = (buffer_length(&mut self.random, words), buffer_length(&mut self.random, pages));
-        self.send(job, lengths.0, lengths.1)?;
-        self.list(job, 9 * words)?;
+        self.send(job, book, lengths.0, lengths.1)?;
+        self.list(job, book, 9 * words)?;
         let length = buffer_length(&mut self.random, 9 * words);
-        self.list(job, length)?;
-        self.steps(job)
+        self.list(job, book, length)?;
+        self.steps(job, book)
     }
 
     /// Sends with buffers of the given lengths.
-    pub fn send(&mut self, job: &[u8], words_length: usize, slots_length: usize) -> Outcome {
+    pub fn send(&mut self, job: &[u8], book: &[u8], words_length: usize, slots_length: usize) -> Outcome {
         let words_before: Lent<u32> = Lent::new(&mut self.random, words_length);
         let slots_before: Lent<u32> = Lent::new(&mut self.random, slots_length);
         let (mut words, mut slots) = (words_before.clone(), slots_before.clone());
         let (mut words_got, mut slots_got) = (words_before.clone(), slots_before.clone());
-        let expected = match send::send(job, words.slice(), slots.slice()) {
+        let expected = match send::send(job, book, words.slice(), slots.slice()) {
             Ok(send::Report { batches, words }) => card::Report { place: 0, position: 0, number: 0, batches, words },
             Err(Refusal { number, place, position }) => card::Report { place, position, number, batches: 0, words: 0 },
         };
         if expected.number != 0 {
             (words, slots) = (words_before, slots_before);
         }
-        let got = card::send(job, words_got.slice(), slots_got.slice());
-        let input = || format!("words {words_length}, slots {slots_length}, job:\n{}", shown(job));
+        let got = card::send(job, book, words_got.slice(), slots_got.slice());
+        let input = || format!("words {words_length}, slots {slots_length}, {}", shown_job(job, book));
         if got != expected {
             return differs("send", got, expected, &input());
         }
@@ -101,18 +101,18 @@ impl Comparison {
     }
 
     /// Lists into a buffer of the given length.
-    pub fn list(&mut self, job: &[u8], length: usize) -> Outcome {
+    pub fn list(&mut self, job: &[u8], book: &[u8], length: usize) -> Outcome {
         let before: Lent<u8> = Lent::new(&mut self.random, length);
         let (mut out, mut out_got) = (before.clone(), before.clone());
-        let expected = match send::list(job, out.slice()) {
+        let expected = match send::list(job, book, out.slice()) {
             Ok(bytes) => card::Bytes { place: 0, position: 0, bytes, number: 0 },
             Err(Refusal { number, place, position }) => card::Bytes { place, position, bytes: 0, number },
         };
         if expected.number != 0 {
             out = before;
         }
-        let got = card::list(job, out_got.slice());
-        let input = || format!("out {length}, job:\n{}", shown(job));
+        let got = card::list(job, book, out_got.slice());
+        let input = || format!("out {length}, {}", shown_job(job, book));
         if got != expected {
             return differs("list", got, expected, &input());
         }
@@ -175,12 +175,12 @@ impl Comparison {
     }
 
     /// A job's start and steps, to the end and somewhat further: the words that sending writes, then done.
-    pub fn steps(&mut self, job: &[u8]) -> Outcome {
-        let input = || format!("job:\n{}", shown(job));
+    pub fn steps(&mut self, job: &[u8], book: &[u8]) -> Outcome {
+        let input = || shown_job(job, book);
         let mut state = Kept::rubbish(&mut self.random);
         let before = state.clone();
-        let got = steps::start(job, &mut state.sender);
-        let (expected, words) = match Accepted::new(job) {
+        let got = steps::start(job, book, &mut state.sender);
+        let (expected, words) = match Accepted::new(job, book) {
             Ok(accepted) => (steps::Refusal::NONE, accepted.words()),
             Err(Refusal { number, place, position }) => (steps::Refusal { place, position, number }, vec![]),
         };
@@ -196,7 +196,7 @@ impl Comparison {
         }
         // the header: what the state held before does not matter
         let mut again = Kept::rubbish(&mut self.random);
-        steps::start(job, &mut again.sender);
+        steps::start(job, book, &mut again.sender);
         if let Some(place) = again.difference(&state) {
             return Err(Difference(format!("a start leaves {place} as it was\n{}", input())));
         }
@@ -211,11 +211,13 @@ impl Comparison {
     }
 
     /// The independent implementation alone: its own steps, and what is read from a damaged transmission is what was sent.
-    pub fn round_trip(&mut self, job: &[u8]) -> Outcome {
-        let accepted = Accepted::new(job).map_err(|refusal| Difference(format!("{refusal:?} for a good job\n{}", shown(job))))?;
+    pub fn round_trip(&mut self, job: &[u8], book: &[u8]) -> Outcome {
+        let input = || shown_job(job, book);
+        let accepted =
+            Accepted::new(job, book).map_err(|refusal| Difference(format!("{refusal:?} for a good job\n{}", input())))?;
         let words = accepted.words();
-        if !send::Sender::start(job).is_ok_and(|sender| sender.eq(words.iter().copied())) {
-            return Err(Difference(format!("independent: the steps aren't the words\n{}", shown(job))));
+        if !send::Sender::start(job, book).is_ok_and(|sender| sender.eq(words.iter().copied())) {
+            return Err(Difference(format!("independent: the steps aren't the words\n{}", input())));
         }
         let mut order: Vec<usize> = (0..accepted.pages.len()).collect();
         order.sort_by_key(|&page| accepted.placement.slots[page]);
@@ -229,7 +231,7 @@ impl Comparison {
         let listing = generate::listings::listing(9, 0xAAAA_AAAA, &batches);
         for log in [reader::log_of_words(&batches), reader::log_of_listing(&listing)] {
             if log.as_ref() != Ok(&expected) {
-                return differs("independent: round trip", log, expected, &format!("job:\n{}", shown(job)));
+                return differs("independent: round trip", log, expected, &input());
             }
         }
         self.count("round trip of independent alone", 0);
@@ -281,6 +283,14 @@ fn same_buffer<T: crate::lent::Unit>(what: &str, got: &Lent<T>, expected: &Lent<
 /// Bytes so that one sees them: a line's end is shown and kept.
 pub fn shown(bytes: &[u8]) -> String {
     bytes.escape_ascii().to_string().replace("\\n", "\\n\n")
+}
+
+/// A job and its book, if it has one.
+pub fn shown_job(job: &[u8], book: &[u8]) -> String {
+    match book {
+        [] => format!("job:\n{}", shown(job)),
+        _ => format!("job:\n{}\nbook:\n{}", shown(job), shown(book)),
+    }
 }
 
 fn shown_words(words: &[u32]) -> String {

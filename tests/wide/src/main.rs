@@ -16,7 +16,8 @@ mod programs;
 mod states;
 
 use compare::{Comparison, Difference, Outcome};
-use generate::{jobs, listings, words, Random};
+use generate::{books, jobs, listings, words, Random};
+use independent::book::NO_BOOK;
 use independent::codeword::{address, message, IDLE, SYNC};
 use programs::Programs;
 use std::process::ExitCode;
@@ -101,9 +102,14 @@ fn limits(comparison: &mut Comparison) -> Outcome {
     for codeword in [0, SYNC, IDLE, u32::MAX, address(0x1F_FFFF, 3), message(0), message(0x84333)] {
         all_near(comparison, codeword)?;
     }
-    for job in jobs::limits() {
-        comparison.job(&job)?;
+    for (number, job) in jobs::limits().iter().enumerate() {
+        comparison.job(job, NO_BOOK)?;
+        // to other jobs a book makes no difference, so that some of them are enough
+        if jobs::names_a_phrase(job) || number % 8 == 0 {
+            comparison.job(job, books::SHORT)?;
+        }
     }
+    book_limits(comparison)?;
     for listing in listings::limits() {
         comparison.listing(&listing)?;
     }
@@ -114,11 +120,11 @@ fn limits(comparison: &mut Comparison) -> Outcome {
     for job in [&b"000009 4 3132\n"[..], b"000007 0\n000007 1\n00000F 4 31\n"] {
         for words in 0..56 {
             for slots in 0..5 {
-                comparison.send(job, words, slots)?;
+                comparison.send(job, NO_BOOK, words, slots)?;
             }
         }
         for bytes in 0..480 {
-            comparison.list(job, bytes)?;
+            comparison.list(job, NO_BOOK, bytes)?;
         }
     }
     largest(comparison)?;
@@ -128,18 +134,37 @@ fn limits(comparison: &mut Comparison) -> Outcome {
     comparison.state_limits()
 }
 
+/// Phrase books: those about each limit with jobs of every sort, and each number of a phrase with books of several sizes.
+fn book_limits(comparison: &mut Comparison) -> Outcome {
+    for book in books::limits() {
+        for job in jobs::FOR_BOOKS {
+            comparison.job(job, &book)?;
+        }
+    }
+    let mut random = Random::new(0);
+    for phrases in [1, 2, 10, 99, 100] {
+        let book = books::good(&mut random, phrases);
+        for job in jobs::phrase_numbers() {
+            comparison.job(&job, &book)?;
+        }
+    }
+    Ok(())
+}
+
 /// The largest jobs, and the reading that takes the slow engine longest.
 fn largest(comparison: &mut Comparison) -> Outcome {
     let mut random = Random::new(0);
     let mut largest: Vec<Vec<u8>> = (0..8).map(|frame| jobs::maximal(&mut random, &[frame])).collect();
     largest.push(jobs::maximal_data(&mut random, &[7]));
     largest.push(jobs::latest(&mut random));
-    for job in largest {
-        comparison.job(&job)?;
-        comparison.send(&job, card::WORDS, card::PAGES)?;
-        comparison.list(&job, card::LISTING_BYTES)?;
-        comparison.round_trip(&job)?;
-        comparison.bad_day(&job)?;
+    let mut largest: Vec<(Vec<u8>, Vec<u8>)> = largest.into_iter().map(|job| (job, NO_BOOK.to_vec())).collect();
+    largest.push(jobs::maximal_phrases(&mut random, &[7]));
+    for (job, book) in largest {
+        comparison.job(&job, &book)?;
+        comparison.send(&job, &book, card::WORDS, card::PAGES)?;
+        comparison.list(&job, &book, card::LISTING_BYTES)?;
+        comparison.round_trip(&job, &book)?;
+        comparison.bad_day(&job, &book)?;
     }
     let any = words::any_batches(&mut random, words::MOST_BATCHES);
     comparison.words(&any)?;
@@ -171,13 +196,17 @@ fn round(comparison: &mut Comparison, random: &mut Random) -> Outcome {
         comparison.correct(near)?;
     }
     for _ in 0..10 {
-        let job = jobs::good(random);
-        comparison.job(&job)?;
-        comparison.round_trip(&job)?;
-        comparison.bad_day(&job)?;
+        let (job, book) = jobs::good(random);
+        comparison.job(&job, &book)?;
+        comparison.round_trip(&job, &book)?;
+        comparison.bad_day(&job, &book)?;
     }
     for _ in 0..40 {
-        comparison.job(&jobs::bad(random))?;
+        let (job, book) = jobs::bad(random);
+        comparison.job(&job, &book)?;
+    }
+    for job in jobs::FOR_BOOKS {
+        comparison.job(job, &books::bad(random))?;
     }
     for _ in 0..20 {
         comparison.listing(&listings::any(random))?;

@@ -1,9 +1,11 @@
 //! The programs, run as they are: what each prints for an input must be what the independent implementation says.
 
 use crate::compare::{shown, Comparison, Difference, Outcome};
-use generate::{jobs, listings, Random};
+use generate::{books, jobs, listings, Random};
+use independent::book::NO_BOOK;
 use independent::program;
 use std::io::Write;
+use std::path::{Path, PathBuf};
 use std::process::{Command, Stdio};
 
 /// Paths of the sending and of the reading program, and perhaps of the reading program on the slow engine.
@@ -11,6 +13,15 @@ pub struct Programs {
     sending: String,
     reading: String,
     slow_reading: Option<String>,
+    /// The file that phrase books are written to.
+    book: PathBuf,
+}
+
+impl Drop for Programs {
+    fn drop(&mut self) {
+        // it is there only if a book was written
+        _ = std::fs::remove_file(&self.book);
+    }
 }
 
 impl Programs {
@@ -19,7 +30,8 @@ impl Programs {
         match paths {
             [] => Ok(None),
             [sending, reading, slow @ ..] if slow.len() < 2 => {
-                Ok(Some(Programs { sending: sending.clone(), reading: reading.clone(), slow_reading: slow.first().cloned() }))
+                let book = std::env::temp_dir().join(format!("wide-{}.book", std::process::id()));
+                Ok(Some(Programs { sending: sending.clone(), reading: reading.clone(), slow_reading: slow.first().cloned(), book }))
             }
             _ => Err(()),
         }
@@ -30,14 +42,15 @@ impl Programs {
         for length in [0, 1, 65_535, 65_536, 65_537, 70_000, 200_000] {
             for filling in [&b"000009 0\n"[..], b"7CD215D8 7CD215D8\n", b"\n", b"x", b"\0", b"\xFF"] {
                 let input: Vec<u8> = filling.iter().copied().cycle().take(length).collect();
-                self.send(comparison, &input)?;
+                self.send(comparison, &input, NO_BOOK)?;
                 self.read(comparison, &input)?;
             }
         }
-        self.send(comparison, b"000009 4 3132\n")?;
+        self.send(comparison, b"000009 4 3132\n", NO_BOOK)?;
         for job in jobs::texts() {
-            self.send(comparison, &job)?;
+            self.send(comparison, &job, NO_BOOK)?;
         }
+        self.book_limits(comparison)?;
         for batches in [1, 299, 300, 301] {
             for lines in [8, 9, 36, 37] {
                 self.read(comparison, &listings::listing(lines, 0, &listings::idle_batches(batches)))?;
@@ -45,49 +58,105 @@ impl Programs {
         }
         let mut random = Random::new(0);
         for frame in 0..8 {
-            self.send(comparison, &jobs::maximal(&mut random, &[frame]))?;
+            self.send(comparison, &jobs::maximal(&mut random, &[frame]), NO_BOOK)?;
         }
-        self.send(comparison, &jobs::maximal_data(&mut random, &[7]))?;
-        self.send(comparison, &jobs::latest(&mut random))?;
+        self.send(comparison, &jobs::maximal_data(&mut random, &[7]), NO_BOOK)?;
+        self.send(comparison, &jobs::latest(&mut random), NO_BOOK)?;
+        let (job, book) = jobs::maximal_phrases(&mut random, &[7]);
+        self.send(comparison, &job, &book)?;
         let longest = generate::words::one_long_page(&mut random, 300);
         self.read(comparison, &listings::listing(36, 0, &longest))
     }
 
+    /// The sending program with books: numbers of phrases, books about the most that is looked at, and what is no book's file.
+    fn book_limits(&self, comparison: &mut Comparison) -> Outcome {
+        for job in jobs::phrase_numbers() {
+            self.send(comparison, &job, books::SHORT)?;
+        }
+        let longest = books::longest(&mut Random::new(0));
+        let mut some = vec![longest.clone(), b"41\n42".to_vec(), b"\n".to_vec()];
+        for length in [48_101, 65_535, 65_536, 65_537, 70_000, 200_000] {
+            for filling in [b'4', b'\n'] {
+                let mut book = longest.clone();
+                book.resize(length, filling);
+                some.extend([book, vec![filling; length]]);
+            }
+        }
+        // with an input of more than is read 24 comes before 19
+        let long = [b'x'; program::MOST_INPUT + 1];
+        for book in some {
+            for job in jobs::FOR_BOOKS.into_iter().chain([&long[1..], &long]) {
+                self.send(comparison, job, &book)?;
+            }
+        }
+        // an empty file is no book; of what can't be read, and of two books, nothing is printed
+        self.write_book(NO_BOOK)?;
+        let missing = self.book.with_extension("missing");
+        let folder = std::env::temp_dir();
+        for job in jobs::FOR_BOOKS {
+            self.send_with(comparison, &[&self.book], job, &program::sending(job, NO_BOOK))?;
+            for arguments in [&[&*missing][..], &[&folder], &[Path::new("")], &[&self.book, &self.book]] {
+                self.send_with(comparison, arguments, job, b"")?;
+            }
+        }
+        Ok(())
+    }
+
     pub fn round(&self, comparison: &mut Comparison, random: &mut Random) -> Outcome {
-        let job = if random.once_in(2) { jobs::good(random) } else { jobs::bad(random) };
-        self.send(comparison, &job)?;
+        let (job, book) = match random.below(5) {
+            0 | 1 => jobs::good(random),
+            2 | 3 => jobs::bad(random),
+            _ => (random.pick(&jobs::FOR_BOOKS).to_vec(), books::bad(random)),
+        };
+        self.send(comparison, &job, &book)?;
         let listing = listings::any(random);
         self.read(comparison, &listing)
     }
 
-    fn send(&self, comparison: &mut Comparison, input: &[u8]) -> Outcome {
-        compare(&self.sending, input, &program::sending(input))?;
+    /// Without an argument where there is no book.
+    fn send(&self, comparison: &mut Comparison, input: &[u8], book: &[u8]) -> Outcome {
+        let expected = program::sending(input, book);
+        if book.is_empty() {
+            return self.send_with(comparison, &[], input, &expected);
+        }
+        self.write_book(book)?;
+        self.send_with(comparison, &[&self.book], input, &expected)
+            .map_err(|Difference(text)| Difference(format!("{text}\nbook:\n{}", shown(book))))
+    }
+
+    fn send_with(&self, comparison: &mut Comparison, arguments: &[&Path], input: &[u8], expected: &[u8]) -> Outcome {
+        compare(&self.sending, arguments, input, expected)?;
         comparison.count("sending program", 0);
         Ok(())
     }
 
+    fn write_book(&self, book: &[u8]) -> Outcome {
+        std::fs::write(&self.book, book).map_err(|error| Difference(format!("{}: {error}", self.book.display())))
+    }
+
     fn read(&self, comparison: &mut Comparison, input: &[u8]) -> Outcome {
         let expected = program::reading(input);
-        compare(&self.reading, input, &expected)?;
+        compare(&self.reading, &[], input, &expected)?;
         comparison.count("reading program", 0);
         if let Some(path) = &self.slow_reading {
-            compare(path, input, &expected)?;
+            compare(path, &[], input, &expected)?;
             comparison.count("slow reading program", 0);
         }
         Ok(())
     }
 }
 
-fn compare(path: &str, input: &[u8], expected: &[u8]) -> Outcome {
-    let got = run(path, input).map_err(|error| Difference(format!("{path}: {error}")))?;
+fn compare(path: &str, arguments: &[&Path], input: &[u8], expected: &[u8]) -> Outcome {
+    let got = run(path, arguments, input).map_err(|error| Difference(format!("{path}: {error}")))?;
     if got != expected {
         return Err(Difference(format!("{path} prints\n{}\nexpected\n{}\ninput:\n{}", shown(&got), shown(expected), shown(input))));
     }
     Ok(())
 }
 
-fn run(path: &str, input: &[u8]) -> std::io::Result<Vec<u8>> {
-    let mut child = Command::new(path).stdin(Stdio::piped()).stdout(Stdio::piped()).stderr(Stdio::null()).spawn()?;
+fn run(path: &str, arguments: &[&Path], input: &[u8]) -> std::io::Result<Vec<u8>> {
+    let mut command = Command::new(path);
+    let mut child = command.args(arguments).stdin(Stdio::piped()).stdout(Stdio::piped()).stderr(Stdio::null()).spawn()?;
     let mut stdin = child.stdin.take().expect("piped");
     let output = std::thread::scope(|scope| {
         // a program may stop reading when it has seen enough

@@ -125,11 +125,11 @@ impl Comparison {
             kept.sender.bytes_mut().fill(byte);
             self.follow(&kept, 6000, "equal bytes")?;
         }
-        let jobs =
-            [&b"000009 4 3132\n"[..], b"000000 0\n000007 5 4142434445464748494A4B4C\n000000 4 31\n", &jobs::latest(&mut random)];
+        let book = b"4142434445464748494A4B4C\n";
+        let jobs = [&b"000009 4 3132\n"[..], b"000000 0\n000007 9 00\n000000 4 31\n", &jobs::latest(&mut random)];
         for job in jobs {
             for steps in [0, 1, 17, 18, 19, 20, 21, 22, 23, 26, 34, 35, 36, 40, 52, 119, 120, 600, 5100, 5118] {
-                let reached = reached(&mut random, job, steps);
+                let reached = reached(&mut random, job, book, steps);
                 // every value of every byte of the cursor and the page count
                 for at in 0..20 {
                     for byte in 0..=255 {
@@ -153,9 +153,9 @@ impl Comparison {
     }
 
     pub fn state_round(&mut self, random: &mut Random) -> Outcome {
-        let job = jobs::good(random);
+        let (job, book) = jobs::good(random);
         let steps = if random.once_in(4) { random.below(5200) } else { random.below(100) };
-        let reached = reached(random, &job, steps);
+        let reached = reached(random, &job, &book, steps);
         for _ in 0..300 {
             let mut kept = reached.clone();
             for _ in 0..random.pick(&[1, 1, 1, 2, 3, 8]) {
@@ -192,10 +192,10 @@ impl Comparison {
     }
 }
 
-/// The state after some steps of a job.
-fn reached(random: &mut Random, job: &[u8], steps: usize) -> Box<Kept> {
+/// The state after some steps of a job with its book.
+fn reached(random: &mut Random, job: &[u8], book: &[u8], steps: usize) -> Box<Kept> {
     let mut kept = Kept::rubbish(random);
-    steps::start(job, &mut kept.sender);
+    steps::start(job, book, &mut kept.sender);
     for _ in 0..steps {
         steps::step(&mut kept.sender);
     }

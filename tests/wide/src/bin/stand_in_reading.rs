@@ -1,5 +1,5 @@
 //! The reading program of the stand-in.
 
 fn main() -> std::io::Result<()> {
-    card::stand_in::program::run(independent::program::reading)
+    card::stand_in::program::reading()
 }

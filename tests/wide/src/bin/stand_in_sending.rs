@@ -1,5 +1,5 @@
 //! The sending program of the stand-in.
 
 fn main() -> std::io::Result<()> {
-    card::stand_in::program::run(independent::program::sending)
+    card::stand_in::program::sending()
 }
