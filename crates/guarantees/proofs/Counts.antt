@@ -12,7 +12,7 @@ use Rattle.text.specs.Coding.{groupsOf}
 use Rattle.job.specs.Submission.{Submission}
 use Rattle.job.specs.Line.{codingOf, kindOf, textDigits, textOf}
 use Rattle.job.specs.Message.{countFrom}
-use Rattle.job.specs.Pages.{pageAt, digitsAt, plainAt}
+use Rattle.job.specs.Pages.{kindAt, digitsAt, plainAt}
 use Rattle.job.specs.Job.{jobOf}
 use Rattle.job.specs.Accepted.{Sound}
 use Rattle.job.specs.declared.JobAnswer.the-variants.{Accepted}
@@ -52,7 +52,7 @@ module _ (s : Submission) (n : ℕ) (ok : jobOf s ≡ Accepted n) where
   groups-count i l =
       let a = accepted-job s n ok in
       let p = a .page i l in
-      from-count (pageAt s i .kind) (digitsAt s i) ∙ rw (p .kind-is, p .digits-are) (count-of (plainAt s i) (a .sound i l))
+      from-count (kindAt s i) (digitsAt s i) ∙ rw (p .kind-is, p .digits-are) (count-of (plainAt s i) (a .sound i l))
 
   -- the same of its sending
   pub sent-count : (i : ℕ) → i < n → length (sendingAt (sendingsOf s) i .groups) ≡ count s i

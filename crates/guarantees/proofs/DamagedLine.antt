@@ -13,7 +13,7 @@ use Rattle.base.proofs.Bools.{true-false}
 use Rattle.base.proofs.SearchLaws.{Least, least-is, least-only, le-or-lt}
 use Rattle.job.specs.Submission.{Submission}
 use Rattle.job.specs.Line.{functionOf}
-use Rattle.job.specs.Pages.{pageAt, digitsAt}
+use Rattle.job.specs.Pages.{pageAt, kindAt, digitsAt}
 use Rattle.job.specs.Print.{printed}
 use Rattle.job.specs.Job.{jobOf}
 use Rattle.job.specs.declared.JobAnswer.the-variants.{Accepted}
@@ -92,7 +92,7 @@ module _ (s : Submission) (n : ℕ) (ok : jobOf s ≡ Accepted n) (most : ℕ) (
   -- ---- its line
 
   abbrev kind : ℕ
-  kind = pageAt s i .kind
+  kind = kindAt s i
 
   abbrev groups : List ℕ
   groups = take (m - 1) (page s i .groups)

@@ -20,7 +20,7 @@ use Rattle.text.proofs.TextBack.{text-back}
 use Rattle.job.specs.Submission.{Submission}
 use Rattle.job.specs.Line.{isData, codingOf, functionOf, identityOf, kindOf, textDigits, textOf}
 use Rattle.job.specs.Message.{groupsFrom}
-use Rattle.job.specs.Pages.{pageAt, digitsAt, plainAt}
+use Rattle.job.specs.Pages.{kindAt, digitsAt, plainAt}
 use Rattle.job.specs.Print.{printed}
 use Rattle.job.specs.Job.{jobOf}
 use Rattle.job.specs.declared.JobAnswer.the-variants.{Accepted}
@@ -90,7 +90,7 @@ module _ (l : List ℕ) (s : Sound l) where
   heard-back : HeardBack kind digits
   heard-back = ⊎-elim coded-back data-back (le-or-lt kind 5)
 
-pub page-back : (s : Submission) (n : ℕ) → jobOf s ≡ Accepted n → (p : ℕ) → p < n → HeardBack (pageAt s p .kind) (digitsAt s p)
+pub page-back : (s : Submission) (n : ℕ) → jobOf s ≡ Accepted n → (p : ℕ) → p < n → HeardBack (kindAt s p) (digitsAt s p)
 page-back s n ok p h =
     let a = accepted-job s n ok in
     let r = a .page p h in

@@ -12,7 +12,7 @@ use Rattle.base.specs.Lists.{over}
 use Rattle.base.specs.Search.{sum}
 use Rattle.codeword.specs.Code as code
 use Rattle.job.specs.Submission.{Submission}
-use Rattle.job.specs.Pages.{pageAt, digitsAt}
+use Rattle.job.specs.Pages.{pageAt, kindAt, digitsAt}
 use Rattle.job.specs.Job.{jobOf}
 use Rattle.job.specs.declared.JobAnswer.{JobAnswer}
 use Rattle.job.specs.declared.JobAnswer.the-variants.{Accepted}
@@ -67,7 +67,7 @@ messageCount kind digits =
 
 -- those of page i
 abbrev pub count : Submission → ℕ → ℕ
-count s i = messageCount (pageAt s i .kind) (digitsAt s i)
+count s i = messageCount (kindAt s i) (digitsAt s i)
 
 -- the slot that is reported for page i
 abbrev pub slot : List ℕ → ℕ → ℕ

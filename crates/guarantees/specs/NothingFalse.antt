@@ -10,7 +10,7 @@ use Rattle.base.specs.Lists.{Begins}
 use Rattle.codeword.specs.Nearest.{nearest}
 use Rattle.job.specs.Submission.{Submission}
 use Rattle.job.specs.Line.{isData, functionOf}
-use Rattle.job.specs.Pages.{pageAt, digitsAt}
+use Rattle.job.specs.Pages.{pageAt, kindAt, digitsAt}
 use Rattle.job.specs.Print.{printed}
 use Rattle.job.specs.Job.{jobOf}
 use Rattle.job.specs.declared.JobAnswer.the-variants.{Accepted}
@@ -81,12 +81,12 @@ pub record Cut (s : Submission) (words : List ℕ) (i : ℕ) (line : List ℕ) :
   pub digits : List ℕ
   pub line-is : line ≡ printed (pageAt s i .identity) kind digits true
   -- the text is that of the message words that are read, in whole characters or groups, and begins the page's text
-  pub digits-are : digits ≡ digitsHeard (functionOf (pageAt s i .kind)) (take read (page s i .groups))
-  pub whole : length digits % together (pageAt s i .kind) ≡ 0
+  pub digits-are : digits ≡ digitsHeard (functionOf (kindAt s i)) (take read (page s i .groups))
+  pub whole : length digits % together (kindAt s i) ≡ 0
   pub begins : Begins digits (digitsAt s i)
   -- where no message word is read the kind is the function's tone, else that of the undamaged line
-  pub tone : read ≡ 0 → kind ≡ functionOf (pageAt s i .kind)
-  pub same : 0 < read → kind ≡ pageAt s i .kind
+  pub tone : read ≡ 0 → kind ≡ functionOf (kindAt s i)
+  pub same : 0 < read → kind ≡ kindAt s i
 
 pub record LineOf (s : Submission) (words : List ℕ) (i : ℕ) (line : List ℕ) : Type 0 where
   -- it has no `-` exactly when the page is undamaged, and is the page's own line then

@@ -150,8 +150,8 @@ module _ (s : Submission) (n : ℕ) (ok : jobOf s ≡ Accepted n) where
           kind-is = its .kind-is;
           digits-are = digits;
           length-is = its .length-is ∙ sym (ap length digits);
-          source-is = its .source-is;
-          phrased = λ k. let x = its .phrased k in (its .kind-is ∙ x .0, digits ∙ x .1);
+          line-kind = its .line-kind;
+          phrased = λ k. let x = its .phrased (sym (its .line-kind) ∙ k) in (its .kind-is ∙ x .0, digits ∙ x .1);
           read = rw ok (List·getD-append (pagesOf s) (replicate (48 - length (pagesOf s)) noPage) noPage p (omega (arith, counted)));
         }
 

@@ -1,6 +1,7 @@
 pub mod Laws
 pub mod Message
 pub mod Sound
+pub mod PhraseText
 pub mod Plain
 pub mod Keeping
 pub mod Accepted

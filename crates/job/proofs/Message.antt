@@ -4,9 +4,9 @@ use mathlib.Core.Path.{_≡_, refl, sym, ap, _∙_}
 use mathlib.Core.Bool.{Bool, true, false, cond}
 use mathlib.Core.List.{List}
 use native.Mathlib.Omega.{arith}
-use lib.Dec.{leb}
+use lib.Dec.{leb, eqb}
 use lib.ListN.{length, getD}
-use borrow.Author.Tests.{le-leb, lt-leb, leb-true}
+use borrow.Author.Tests.{le-leb, lt-leb, leb-true, eqb-true}
 use Rattle.base.specs.Hex.{bytesOf}
 use Rattle.base.specs.Lists.{tab}
 use Rattle.base.proofs.Bools.{and-true, and-false}
@@ -16,7 +16,7 @@ use Rattle.text.specs.Coding.{groupOf, groupsOf, groupsIn}
 use Rattle.text.specs.Fives.{fiveAt, fivesIn}
 use Rattle.text.proofs.FivesBack.{fives-small}
 use Rattle.text.proofs.GroupLaws.{groups-small}
-use Rattle.job.specs.Line.{isData, codingOf}
+use Rattle.job.specs.Line.{isData, codingOf, kindSent}
 use Rattle.job.specs.Message.{groupFrom, countFrom, groupsFrom}
 
 -- ---- which kinds are data
@@ -36,6 +36,24 @@ over-data kind high = rw (lt-leb kind 7 high) (and-false (leb 6 kind))
 pub data-kind : (kind : ℕ) → isData kind ≡ true → (6 ≤ kind) × (kind ≤ 7)
 unfolding isData
 data-kind kind e = let x = and-true (leb 6 kind) (leb kind 7) e in (leb-true 6 kind (x .0), leb-true kind 7 (x .1))
+
+-- ---- a phrase is sent as an alphanumeric text
+
+pub data-sent : (kind : ℕ) → isData (kindSent kind) ≡ isData kind
+unfolding isData kindSent
+data-sent kind = go (eqb kind 9) refl
+  where
+    go : (t : Bool) → eqb kind 9 ≡ t → isData (cond t 5 kind) ≡ isData kind
+    go true e = let nine : kind ≡ 9 = eqb-true kind 9 e in rw nine
+    go false e = refl
+
+pub coding-sent : (kind : ℕ) → codingOf (kindSent kind) ≡ codingOf kind
+unfolding codingOf kindSent
+coding-sent kind = go (eqb kind 9) refl
+  where
+    go : (t : Bool) → eqb kind 9 ≡ t → codingOf (cond t 5 kind) ≡ codingOf kind
+    go true e = let nine : kind ≡ 9 = eqb-true kind 9 e in rw nine
+    go false e = refl
 
 -- ---- the groups of a text, by its kind
 

@@ -1,34 +1,28 @@
 -- What a good line stands for is sound, and its page has it. Assumes nothing.
-use Prim.Native.Nat.{ℕ, _+_, _-_, _*_, _%_, _≤_}
+use Prim.Native.Nat.{ℕ, _≤_}
 use mathlib.Core.Path.{_≡_, refl, sym, ap, _∙_}
 use mathlib.Core.List.{List, [], _∷_, _++_}
-use mathlib.Core.Bool.{true, cond}
+use mathlib.Core.Bool.{true}
 use mathlib.Core.Logic.{⊎-elim}
 use native.Mathlib.Omega.{arith}
 use lib.ListN.{length, take, drop, length-drop}
 use lib.Seq.{drop-drop}
 use lib.Dec.{leb, eqb}
-use borrow.Author.Tests.{eq-eqb, ne-eqb, le-leb, eqb-true}
+use borrow.Author.Tests.{eq-eqb, ne-eqb, le-leb}
 use Rattle.base.specs.Hex.{isHex, hexOf, bytesOf}
-use Rattle.base.specs.Leading.{leading}
 use Rattle.base.proofs.Bools.{and-true, and-both}
-use Rattle.base.proofs.HexLaws.{bytes-length}
-use Rattle.base.proofs.LeadingLaws.{leading-le}
 use Rattle.base.proofs.ListLaws.{drop-take}
-use Rattle.text.specs.Coding.{charRun, endsInSpace}
-use Rattle.text.specs.declared.Coding.the-variants.{Alphanumeric}
-use Rattle.text.proofs.RunLaws.{run-digits, run-chars}
-use Rattle.phrases.specs.Book.{isPhrase, bookFault, phraseOf}
+use Rattle.phrases.specs.Book.{bookFault, phraseOf}
 use Rattle.phrases.proofs.Found.{found}
-use Rattle.phrases.proofs.Phrases.{phrase-parts, two-digits}
+use Rattle.phrases.proofs.Phrases.{two-digits}
 use Rattle.job.specs.Submission.{withBook}
-use Rattle.job.specs.Line.{isData, longestOf, codingOf, allHex, isDigits, isPairs, headFormed, textFormed, tailFormed, wellFormed, identityOf, kindOf, textDigits, pageFrom, lineOf}
+use Rattle.job.specs.Line.{isData, kindSent, allHex, isPairs, headFormed, textFormed, tailFormed, wellFormed, identityOf, kindOf, textDigits, pageFrom, lineOf}
 use Rattle.job.specs.Pages.{digitsIn, plain}
-use Rattle.job.specs.Accepted.{Sound}
-use Rattle.job.specs.declared.Source.the-variants.{Job, Book}
+use Rattle.job.specs.Accepted.{TextSound, Sound}
 use Rattle.job.specs.declared.Page.{Page}
 use Rattle.job.specs.declared.LineAnswer.the-variants.{Good}
 use Rattle.job.proofs.Laws.{head-long}
+use Rattle.job.proofs.PhraseText.{phrase-text}
 use Rattle.job.proofs.Sound.{KindSound, Named, Passed, passed, sound}
 
 -- what is known of a good line that starts at byte `at`, of its page p, and of the line x that it stands for
@@ -36,13 +30,17 @@ pub record Fine (b : List ℕ) (at : ℕ) (l : List ℕ) (p : Page) (x : List �
   pub sounds : Sound x
   pub short : length l ≤ 489
   pub identity-is : p .identity ≡ identityOf x
-  pub kind-is : p .kind ≡ kindOf x
+  pub kind-is : kindSent (p .kind) ≡ kindOf x
   pub length-is : p .length ≡ length (textDigits x)
   pub digits-are : (job : List ℕ) → take (length l) (drop at job) ≡ l → digitsIn (withBook job b) p ≡ textDigits x
-  pub source-is : p .source ≡ cond (eqb (kindOf l) 9) Book Job
+  pub line-kind : p .kind ≡ kindOf l
   pub phrased : kindOf l ≡ 9 → (kindOf x ≡ 5) × (textDigits x ≡ phraseOf b (textDigits l))
 
 -- ---- a line with a text of its own
+
+sent-own : (kind : ℕ) → kind ≤ 7 → kindSent kind ≡ kind
+unfolding kindSent
+sent-own kind h = rw (ne-eqb kind 9 (λ e. omega arith))
 
 plain-own : (b l : List ℕ) → kindOf l ≤ 7 → plain b l ≡ l
 unfolding plain
@@ -55,10 +53,10 @@ fine-own b at l s e =
       sounds = s;
       short = omega (arith, s .short, length-drop 9 l);
       identity-is = refl;
-      kind-is = refl;
+      kind-is = sent-own (kindOf l) (s .known);
       length-is = sym (length-drop 9 l);
-      digits-are = λ job there. rw (← drop-drop 9 at job, ← drop-take 9 (length l) (drop at job), there);
-      source-is = rw (ne-eqb (kindOf l) 9 (λ e. omega (arith, s .known)));
+      digits-are = λ job there. rw (ne-eqb (kindOf l) 9 (λ e. omega (arith, s .known)), ← drop-drop 9 at job, ← drop-take 9 (length l) (drop at job), there);
+      line-kind = refl;
       phrased = λ e. absurd (omega (arith, s .known));
     })
 
@@ -102,59 +100,32 @@ phrased-is l ds (eight a b c d e f g h r) w p =
       digits = refl;
     }
 
--- a phrase is a text of kind 5
-module _ (ds : List ℕ) (e : isPhrase ds ≡ true) where
-  hex : leading isHex ds ≡ length ds
-  hex = let q = phrase-parts ds e in omega (arith, q .2, run-digits Alphanumeric ds, leading-le isHex ds)
-
-  phrase-pairs : isPairs ds ≡ true
-  unfolding isPairs isDigits
-  phrase-pairs =
-      let q = phrase-parts ds e in
-      and-both (eq-eqb (length ds % 2) 0 (omega (arith, q .2)))
-      (rw (ne-eqb (length ds) 0 (λ z. omega (arith, q .0, q .2))) (eq-eqb (leading isHex ds) (length ds) hex))
-
-  phrase-kind : KindSound 5 ds
-  unfolding codingOf longestOf endsInSpace
-  phrase-kind =
-      let q = phrase-parts ds e in
-      let n = bytes-length ds in
-      let run = run-chars Alphanumeric ds (omega (arith, hex)) in
-      record {
-        known = omega arith;
-        text = λ _.
-            record {
-              tone = λ h. absurd (omega arith);
-              some = λ _. omega (arith, q .0, q .2);
-              most = omega (arith, q .1, q .2);
-              chars = omega (arith, q .2);
-              unspaced = refl;
-            };
-        grouped = λ h. absurd (omega arith);
-      }
+phrase-kind : (ds : List ℕ) → TextSound 5 (bytesOf ds) → KindSound 5 ds
+phrase-kind ds t = record { known = omega arith; text = λ _. t; grouped = λ h. absurd (omega arith) }
 
 plain-phrase : (b l : List ℕ) → kindOf l ≡ 9 → plain b l ≡ phrased l (phraseOf b (textDigits l))
 unfolding plain
 plain-phrase b l h = rw (eq-eqb (kindOf l) 9 h)
 
 fine-phrase : (b : List ℕ) (at : ℕ) (l : List ℕ) {p : Page} → bookFault b ≡ 0 → Passed b at l p → Named b (pageFrom at l) (textDigits l) p → Fine b at l p (phrased l (phraseOf b (textDigits l)))
-unfolding wellFormed
+unfolding wellFormed kindSent
 fine-phrase b at l {p} ok t n =
     let ds = phraseOf b (textDigits l) in
     let f = found b (textDigits l) ok (n .found) in
     let head = and-true (headFormed l) _ (t .formed) .0 in
-    let x = phrased-is l ds (view l (head-long l head)) head (phrase-pairs ds (f .phrase)) in
+    let text = phrase-text ds .text (f .phrase) in
+    let x = phrased-is l ds (view l (head-long l head)) head (text .0) in
     let same = n .same in
-    let is : record { identity = identityOf l; kind = 5; source = Book; start = n .start; length = n .count } ≡ p = cc in
+    let is : record { identity = identityOf l; kind = kindOf l; start = n .start; length = n .count } ≡ p = cc in
     rw (← is)
     (record {
-      sounds = sound (phrased l ds) (x .formed) (rw (x .identity) (t .in-range)) (rw (x .identity) (t .free)) (rw (x .kind, x .digits) (phrase-kind ds (f .phrase)));
+      sounds = sound (phrased l ds) (x .formed) (rw (x .identity) (t .in-range)) (rw (x .identity) (t .free)) (rw (x .kind, x .digits) (phrase-kind ds (text .1)));
       short = omega (arith, two-digits (textDigits l) (f .named), length-drop 9 l);
       identity-is = sym (x .identity);
-      kind-is = sym (x .kind);
+      kind-is = ap kindSent (n .kind) ∙ sym (x .kind);
       length-is = f .size ∙ ap length (sym (x .digits));
-      digits-are = λ job there. f .there ∙ sym (x .digits);
-      source-is = rw (eq-eqb (kindOf l) 9 (n .kind));
+      digits-are = λ job there. rw (eq-eqb (kindOf l) 9 (n .kind)) (f .there ∙ sym (x .digits));
+      line-kind = refl;
       phrased = λ _. (x .kind, x .digits);
     })
 

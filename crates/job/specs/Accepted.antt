@@ -2,9 +2,8 @@
 use Prim.Native.Nat.{ℕ, _%_, _≤_, _<_}
 use mathlib.Core.Path.{_≡_}
 use mathlib.Core.List.{List}
-use mathlib.Core.Bool.{true, false, cond}
+use mathlib.Core.Bool.{true, false}
 use lib.ListN.{length, getD}
-use lib.Dec.{eqb}
 use Rattle.base.specs.Leading.{leading}
 use Rattle.base.specs.Lines.{split, lineAt}
 use Rattle.text.specs.Coding.{charOk, endsInSpace}
@@ -12,9 +11,8 @@ use Rattle.job.specs.Line.{wellFormed, isReserved, longestOf, codingOf, 
 use Rattle.job.specs.Message.{countFrom}
 use Rattle.phrases.specs.Book.{phraseOf}
 use Rattle.job.specs.Submission.{Submission}
-use Rattle.job.specs.Pages.{pagesOf, noPage, pageAt, digitsAt, plainAt}
+use Rattle.job.specs.Pages.{pagesOf, noPage, pageAt, kindAt, digitsAt, plainAt}
 use Rattle.job.specs.Job.{readingOf}
-use Rattle.job.specs.declared.Source.the-variants.{Job, Book}
 
 -- a text of kinds 0 to 5: how many characters it has, each of them the kind's, and no space at the end of a numeric one
 pub record TextSound (kind : ℕ) (bytes : List ℕ) : Type 0 where
@@ -48,14 +46,13 @@ pub record Sound (l : List ℕ) : Type 0 where
 pub record PageRead (s : Submission) (p : ℕ) : Type 0 where
   -- it is what its line stands for, and reading the job returns it
   pub identity-is : pageAt s p .identity ≡ identityOf (plainAt s p)
-  pub kind-is : pageAt s p .kind ≡ kindOf (plainAt s p)
+  pub kind-is : kindAt s p ≡ kindOf (plainAt s p)
   pub digits-are : digitsAt s p ≡ textDigits (plainAt s p)
   pub length-is : pageAt s p .length ≡ length (digitsAt s p)
   pub read : getD (readingOf s .pages) p noPage ≡ pageAt s p
-  -- its text stands in the book where the line has kind 9, and is the phrase that the line names, sent as kind 5; else it stands in the job
-  pub source-is : pageAt s p .source ≡ cond (eqb (kindOf (lineAt p (split (s .job)))) 9) Book Job
-  pub phrased : kindOf (lineAt p (split (s .job))) ≡ 9
-      → (pageAt s p .kind ≡ 5) × (digitsAt s p ≡ phraseOf (s .book) (textDigits (lineAt p (split (s .job)))))
+  -- its kind is its line's; where that is 9, it is sent as kind 5 with the phrase that the line names
+  pub line-kind : pageAt s p .kind ≡ kindOf (lineAt p (split (s .job)))
+  pub phrased : pageAt s p .kind ≡ 9 → (kindAt s p ≡ 5) × (digitsAt s p ≡ phraseOf (s .book) (textDigits (lineAt p (split (s .job)))))
 
 -- a job of n pages: 1 to 48, each of a sound line
 pub record AcceptedJob (s : Submission) (n : ℕ) : Type 0 where

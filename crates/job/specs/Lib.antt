@@ -5,6 +5,7 @@ pub mod Message
 pub mod Pages
 pub mod Job
 pub mod Accepted
+pub mod PhraseText
 pub mod Print
 pub mod PrintsBack
 pub mod Settled

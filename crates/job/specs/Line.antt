@@ -16,7 +16,6 @@ use Rattle.phrases.specs.Book.{hasBook, phraseFor}
 use Rattle.phrases.specs.declared.Phrase.{Phrase}
 use Rattle.phrases.specs.declared.Phrase.the-variants.{At, Missing}
 use Rattle.job.specs.declared.Refusal.the-variants.{Malformed, IdentityRange, IdentityReserved, UnknownKind, PartialGroup, ToneWithText, TextMissing, TextTooLong, NoPhrase, Character, TrailingSpace}
-use Rattle.job.specs.declared.Source.the-variants.{Job, Book}
 use Rattle.job.specs.declared.Page.{Page}
 use Rattle.job.specs.declared.LineAnswer.{LineAnswer}
 use Rattle.job.specs.declared.LineAnswer.the-variants.{Good, Faulty}
@@ -39,9 +38,9 @@ textDigits l = drop 9 l
 abbrev pub textOf : List ℕ → List ℕ
 textOf l = bytesOf (textDigits l)
 
--- the page of a line with a text of its own that starts at byte `at`; the text's digits stand behind six digits, a space, a digit and a space
+-- the page of a line that starts at byte `at`, with a text of its own; the text's digits stand behind six digits, a space, a digit and a space
 abbrev pub pageFrom : ℕ → List ℕ → Page
-pageFrom at l = record { identity = identityOf l; kind = kindOf l; source = Job; start = at + 9; length = length l - 9 }
+pageFrom at l = record { identity = identityOf l; kind = kindOf l; start = at + 9; length = length l - 9 }
 
 -- ---- identities and kinds
 
@@ -60,6 +59,10 @@ longestOf kind = cond (leb kind 3) 0 (cond (eqb kind 4) 60 240)
 -- kind 4 is numeric, kind 5 alphanumeric
 unfoldable pub codingOf : ℕ → Coding
 codingOf kind = cond (eqb kind 4) Numeric Alphanumeric
+
+-- kind 9, a phrase of the book, is sent as an alphanumeric text (request R-6)
+unfoldable pub kindSent : ℕ → ℕ
+kindSent kind = cond (eqb kind 9) 5 kind
 
 -- numeric texts have function 0, alphanumeric ones 3, data 1 and 2, and a tone that of its kind
 unfoldable pub functionOf : ℕ → ℕ
@@ -126,9 +129,9 @@ dataPageOf page digits =
     (cond (ltb 84 (length digits / 5)) (Faulty TextTooLong)
     (Good page)))
 
--- kind 9: a page of kind 5 with the phrase of the book that the digits name; where they name none, number 18
+-- kind 9: the phrase of the book that the digits name is the page's text; where they name none, number 18
 abbrev pub phrasePageOf : Page → Phrase → LineAnswer
-phrasePageOf page (At start count) = Good (record { identity = page .identity; kind = 5; source = Book; start = start; length = count })
+phrasePageOf page (At start count) = Good (record { identity = page .identity; kind = page .kind; start = start; length = count })
 phrasePageOf page Missing = Faulty NoPhrase
 
 -- by the kind, which is 0 to 7, or 9 where there is a book (number 4)

@@ -7,15 +7,14 @@ use lib.Dec.{eqb}
 use Rattle.base.specs.Lines.{Lines, behind, line, split, lineAt}
 use Rattle.phrases.specs.Book.{phraseOf}
 use Rattle.job.specs.Submission.{Submission, sourceOf}
-use Rattle.job.specs.Line.{kindOf, textDigits, lineOf}
-use Rattle.job.specs.declared.Source.the-variants.{Job}
+use Rattle.job.specs.Line.{kindOf, textDigits, kindSent, lineOf}
 use Rattle.job.specs.declared.Page.{Page}
 use Rattle.job.specs.declared.LineAnswer.{LineAnswer}
 use Rattle.job.specs.declared.LineAnswer.the-variants.{Good, Faulty}
 
 -- what stands for a page where there is none
 abbrev pub noPage : Page
-noPage = record { identity = 0; kind = 0; source = Job; start = 0; length = 0 }
+noPage = record { identity = 0; kind = 0; start = 0; length = 0 }
 
 -- the page of a line; none where it is faulty
 abbrev pub pageIn : LineAnswer → Page
@@ -35,9 +34,13 @@ pagesOf s = pagesFrom (s .book) 0 (split (s .job))
 abbrev pub pageAt : Submission → ℕ → Page
 pageAt s p = getD (pagesOf s) p noPage
 
+-- the kind as which it is sent
+abbrev pub kindAt : Submission → ℕ → ℕ
+kindAt s p = kindSent (pageAt s p .kind)
+
 -- the digits of a page's text, in the job or in the book
 abbrev pub digitsIn : Submission → Page → List ℕ
-digitsIn s page = take (page .length) (drop (page .start) (sourceOf (page .source) (s .job) (s .book)))
+digitsIn s page = take (page .length) (drop (page .start) (sourceOf (page .kind) (s .job) (s .book)))
 
 -- those of the page at index p
 abbrev pub digitsAt : Submission → ℕ → List ℕ

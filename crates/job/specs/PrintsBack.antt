@@ -5,7 +5,7 @@ use mathlib.Core.Bool.{false}
 use mathlib.Core.List.{List, [], _∷_, _++_}
 use Rattle.job.specs.Line.{identityOf, kindOf, textDigits}
 use Rattle.job.specs.Submission.{Submission}
-use Rattle.job.specs.Pages.{pageAt, digitsAt, plainAt}
+use Rattle.job.specs.Pages.{pageAt, kindAt, digitsAt, plainAt}
 use Rattle.job.specs.Accepted.{Sound, AcceptedJob}
 use Rattle.job.specs.Print.{printed}
 
@@ -17,5 +17,5 @@ LinePrinted = (l : List ℕ) → Sound l → printed (identityOf l) (kindOf l) (
 abbrev pub PagePrinted : Type 0
 PagePrinted =
     (s : Submission) (n : ℕ) → AcceptedJob s n → (p : ℕ) → p < n
-    → printed (pageAt s p .identity) (pageAt s p .kind) (digitsAt s p) false
+    → printed (pageAt s p .identity) (kindAt s p) (digitsAt s p) false
     ≡ plainAt s p ++ (10 ∷ [])

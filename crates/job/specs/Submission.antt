@@ -1,8 +1,8 @@
 -- What is handed in: a job and its phrase book (request R-6).
 use Prim.Native.Nat.{ℕ}
 use mathlib.Core.List.{List}
-use Rattle.job.specs.declared.Source.{Source}
-use Rattle.job.specs.declared.Source.the-variants.{Job, Book}
+use mathlib.Core.Bool.{cond}
+use lib.Dec.{eqb}
 
 -- the two as one thing; without a book, the empty one
 pub record Submission : Type 0 where
@@ -12,7 +12,6 @@ pub record Submission : Type 0 where
 abbrev pub withBook : List ℕ → List ℕ → Submission
 withBook job book = record { job = job; book = book }
 
--- the one of the two that a source names
-abbrev pub sourceOf : {X : Type 0} → Source → X → X → X
-sourceOf Job job book = job
-sourceOf Book job book = book
+-- the one of the two in which the text of a page of this kind stands: that of kind 9 is a phrase of the book
+abbrev pub sourceOf : {X : Type 0} → ℕ → X → X → X
+sourceOf kind job book = cond (eqb kind 9) book job

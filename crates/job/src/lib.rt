@@ -11,7 +11,7 @@ ghost use Rattle.base.specs.Lines.{split};
 ghost use Rattle.base.specs.Part.{PointsInto};
 ghost use Rattle.phrases.specs.Book.{hasBook, phraseFor};
 ghost use Rattle.job.specs.Refusal.{numberOf, positionOf, jobNumber, jobPlace, jobPosition};
-ghost use Rattle.job.specs.Line.{isData, isReserved, longestOf, codingOf, functionOf, goodRun, Counted, isDigits, isPairs, headFormed, textFormed, tailFormed, tonePageOf, textPageOf, dataPageOf, phrasePageOf, kindPageOf, pageOf, lineOf};
+ghost use Rattle.job.specs.Line.{isData, isReserved, longestOf, codingOf, kindSent, functionOf, goodRun, Counted, isDigits, isPairs, headFormed, textFormed, tailFormed, tonePageOf, textPageOf, dataPageOf, phrasePageOf, kindPageOf, pageOf, lineOf};
 ghost use Rattle.job.specs.Message.{groupFrom, countFrom};
 ghost use Rattle.job.specs.Submission.{withBook, sourceOf};
 ghost use Rattle.job.specs.Pages.{pagesOf, noPage, digitsIn};
@@ -42,18 +42,11 @@ pub enum Refusal {
     BadBook,
 }
 
-// Where a page's text stands.
-pub enum Source {
-    Job,
-    Book,
-}
-
-// A page: its identity, the kind as which it is sent, the byte of the job or of the book at which the digits of its text start, and how
-// many they are.
+// A page: its identity, its kind, the byte at which the digits of its text start, of the book where the kind is 9, else of the job, and
+// how many they are. No byte of it is unused, so that an array of them is cleared at once.
 pub struct Page {
     pub identity: u32,
     pub kind: u32,
-    pub source: Source,
     pub start: usize,
     pub length: usize,
 }
@@ -229,13 +222,14 @@ fn coding(kind: u32) -> Coding
 
 // The function with which a kind is sent.
 pub fn function(kind: u32) -> u32
-    ensures { λ r. ⌜ r ≡ functionOf kind ⌝ }
+    ensures { λ r. ⌜ r ≡ functionOf (kindSent kind) ⌝ }
 {
     match kind {
         4 => 0,
         5 => 3,
         6 => 1,
         7 => 2,
+        9 => 3,
         _ => kind,
     }
 }
@@ -252,7 +246,7 @@ fn is_data(kind: u32) -> bool
 
 // How many groups a text of so many digits takes.
 pub fn groups(kind: u32, length: u16) -> usize
-    ensures { λ r. ⌜ r ≡ countFrom kind length ⌝ }
+    ensures { λ r. ⌜ r ≡ countFrom (kindSent kind) length ⌝ }
 {
     if is_data(kind) {
         return (length / 5) as usize;
@@ -262,7 +256,7 @@ pub fn groups(kind: u32, length: u16) -> usize
 
 // Fills a slice with the first groups of a text.
 pub fn write_groups(kind: u32, digits: &[u8], groups: &mut [u32])
-    ensures { λ _. ⌜ now (groups .exit) ≡ tab (groupFrom kind (now (digits .entry))) (length (now (groups .entry))) ⌝ }
+    ensures { λ _. ⌜ now (groups .exit) ≡ tab (groupFrom (kindSent kind) (now (digits .entry))) (length (now (groups .entry))) ⌝ }
 {
     if is_data(kind) {
         text::write_fives(digits, groups);
@@ -333,8 +327,7 @@ fn judge_phrase(page: Page, digits: &[u8], book: &[u8]) -> LineAnswer
         Phrase::Missing => LineAnswer::Faulty(Refusal::NoPhrase),
         Phrase::At { start, length } => LineAnswer::Good(Page {
             identity: page.identity,
-            kind: 5,
-            source: Source::Book,
+            kind: page.kind,
             start: start,
             length: length,
         }),
@@ -431,7 +424,6 @@ fn read_line(line: &[u8], at: usize, book: &[u8]) -> LineAnswer
     let page = Page {
         identity: identity,
         kind: kind,
-        source: Source::Job,
         start: at + 9,
         length: text_length(line.len()),
     };
@@ -445,7 +437,6 @@ fn no_pages() -> [Page; 48]
     let none = Page {
         identity: 0,
         kind: 0,
-        source: Source::Job,
         start: 0,
         length: 0,
     };
@@ -511,14 +502,13 @@ pub fn read_job(job: &[u8], book: &[u8]) -> Pages
 
 // The digits of a page's text: a part of the job, which starts mid-line, or of the book, and never a copy.
 pub fn page_text<'a>(job: &'a [u8], book: &'a [u8], page: Page) -> &'a [u8]
-    ensures { λ r. ⌜ PointsInto r (sourceOf (page .source) (job .entry) (book .entry)) (page .start) ⌝ }
+    ensures { λ r. ⌜ PointsInto r (sourceOf (page .kind) (job .entry) (book .entry)) (page .start) ⌝ }
     ensures { λ r. ⌜ now r ≡ digitsIn (withBook (now (job .entry)) (now (book .entry))) page ⌝ }
 {
-    let source = page.source;
-    match source {
-        Source::Job => base::part(job, page.start, page.length),
-        Source::Book => base::part(book, page.start, page.length),
+    if page.kind == 9 {
+        return base::part(book, page.start, page.length);
     }
+    base::part(job, page.start, page.length)
 }
 
 // What printing a page line answers.

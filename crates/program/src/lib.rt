@@ -1,4 +1,4 @@
-// What the programs do: standard input in, with a phrase book where one is sent, and the bytes out that are printed (document 01, "The two
+// What the programs do: standard input in, for the sending one with a phrase book, and the bytes out that are printed (document 01, "The two
 // programs", and request R-6). Each program is one call of `send` or `read`, and the few lines around it that read and write.
 ghost use mathlib.Core.Path.{_≡_};
 ghost use mathlib.Core.List.{_++_};
@@ -51,8 +51,8 @@ pub fn read_input(input: &mut [u8; 65537]) -> Input
     read_into(STDIN_FILENO, input)
 }
 
-// Reads the phrase book of a file, and of a long one only the first 65,536 bytes: what stands behind the first 48,101 changes nothing
-// (specs/BookFront.antt).
+// Reads the phrase book of a file, which fails where it can't be opened or read. Of a long one only the first 65,536 bytes are read: what
+// stands behind the first 48,101 changes nothing (specs/BookFront.antt).
 pub fn read_book(path: &[u8], book: &mut [u8; 65536]) -> Input
     ensures { λ r. ⌜ Counts (r .bytes) (now (book .exit)) ⌝ }
 {

@@ -8,6 +8,7 @@ ghost use lib.ListN.{length, getD};
 ghost use Rattle.base.specs.Lists.{over, tab};
 ghost use Rattle.base.specs.Search.{least};
 ghost use Rattle.codeword.specs.Code.{codeword, messageBits};
+ghost use Rattle.job.specs.Line.{kindSent};
 ghost use Rattle.job.specs.Message.{groupFrom};
 ghost use Rattle.job.specs.Submission.{withBook};
 ghost use Rattle.job.specs.Job.{jobOf, readingOf};
@@ -485,7 +486,7 @@ pub fn step_owned(state: Sender) -> Stepped
 // The message codewords of a text's first n groups, over the front of a slice.
 fn write_message(kind: u32, text: &[u8], n: u16, out: &mut [u32])
     requires { ⌜ n ≤ length (now out) ⌝ }
-    ensures { λ r. ⌜ now (out .exit) ≡ over (now (out .entry)) (tab (λ g. codeword (messageBits (groupFrom kind (now (text .entry)) g))) n) ⌝ }
+    ensures { λ r. ⌜ now (out .exit) ≡ over (now (out .entry)) (tab (λ g. codeword (messageBits (groupFrom (kindSent kind) (now (text .entry)) g))) n) ⌝ }
 {
     let count = n as usize;
     job::write_groups(kind, text, &mut out[..count]);

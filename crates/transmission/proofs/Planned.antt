@@ -5,8 +5,9 @@ use mathlib.Core.List.{List}
 use native.Mathlib.Numerals.{add-one}
 use native.Mathlib.Omega.{arith}
 use lib.ListN.{length, getD, length-map}
+use Rattle.job.specs.Line.{kindSent}
 use Rattle.job.specs.Message.{countFrom}
-use Rattle.job.specs.Pages.{noPage, pageAt, digitsAt}
+use Rattle.job.specs.Pages.{noPage, kindAt, digitsAt}
 use Rattle.job.specs.Submission.{Submission}
 use Rattle.job.specs.Job.{jobOf, readingOf}
 use Rattle.job.specs.declared.JobAnswer.the-variants.{Accepted}
@@ -36,12 +37,12 @@ module _ (s : Submission) (n : ℕ) (ok : jobOf s ≡ Accepted n) {read : Pages}
       let p = a .page i h in
       rw (e, p .read, p .length-is, p .digits-are) (a .sound i h .short)
 
-  pub groups-are : countFrom (getD (read .pages) i noPage .kind) (getD (read .pages) i noPage .length) ≡ length (sendingAt (sendingsOf s) i .groups)
+  pub groups-are : countFrom (kindSent (getD (read .pages) i noPage .kind)) (getD (read .pages) i noPage .length) ≡ length (sendingAt (sendingsOf s) i .groups)
   groups-are =
       let p = accepted-job s n ok .page i h in
-      rw (e, p .read, p .length-is, sending-at s i) (sym (from-count (pageAt s i .kind) (digitsAt s i)))
+      rw (e, p .read, p .length-is, sending-at s i) (sym (from-count (kindAt s i) (digitsAt s i)))
 
-  pub count-is : countFrom (getD (read .pages) i noPage .kind) (getD (read .pages) i noPage .length) ≡ getD (countsOf (sendingsOf s)) i 0
+  pub count-is : countFrom (kindSent (getD (read .pages) i noPage .kind)) (getD (read .pages) i noPage .length) ≡ getD (countsOf (sendingsOf s)) i 0
   count-is = groups-are ∙ sym (words-at (sendingsOf s) i)
 
 -- ---- page i by the plan

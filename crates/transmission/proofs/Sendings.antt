@@ -7,9 +7,9 @@ use native.Mathlib.Omega.{arith}
 use lib.ListN.{length, length-map, List·getD-map}
 use Rattle.base.specs.Search.{sum}
 use Rattle.base.specs.Lists.{tab}
-use Rattle.job.specs.Line.{isData, codingOf, functionOf}
+use Rattle.job.specs.Line.{isData, codingOf, kindSent, functionOf}
 use Rattle.job.specs.Message.{countFrom, groupsFrom}
-use Rattle.job.specs.Pages.{pagesOf, noPage, pageAt, digitsAt}
+use Rattle.job.specs.Pages.{pagesOf, noPage, pageAt, kindAt, digitsAt}
 use Rattle.job.specs.Submission.{Submission}
 use Rattle.job.specs.Job.{jobOf}
 use Rattle.job.specs.declared.JobAnswer.the-variants.{Accepted}
@@ -28,7 +28,7 @@ sendings-length s = length-map (pagesOf s) (sendingOf s)
 
 -- the sending at an index is that of the page there
 pub sending-at : (s : Submission) (i : ℕ) → sendingAt (sendingsOf s) i ≡ sendingOf s (pageAt s i)
-unfolding sendingsOf functionOf groupsFrom countFrom isData codingOf tab
+unfolding sendingsOf kindSent functionOf groupsFrom countFrom isData codingOf tab
 sending-at s i = List·getD-map (sendingOf s) (pagesOf s) i noPage
 
 pub frame-at : (xs : List Sending) (i : ℕ) → placementOf xs .frame i ≡ sendingAt xs i .identity % 8
@@ -88,8 +88,8 @@ module _ (s : Submission) (n : ℕ) (ok : jobOf s ≡ Accepted n) where
         in-range = rw (p .identity-is) (omega (arith, l .in-range));
         free = rw (p .identity-is) (l .free);
         two-bits = rw (p .kind-is) (l .function);
-        brief = rw (from-count (pageAt s i .kind) (digitsAt s i), p .kind-is, p .digits-are) (l .brief);
-        small = from-small (pageAt s i .kind) (digitsAt s i);
+        brief = rw (from-count (kindAt s i) (digitsAt s i), p .kind-is, p .digits-are) (l .brief);
+        small = from-small (kindAt s i) (digitsAt s i);
       }
 
   pub accepted-sendings : AllAllowed (sendingsOf s)

@@ -5,7 +5,7 @@ use mathlib.Core.Path.{_≡_}
 use mathlib.Core.Bool.{false}
 use mathlib.Core.List.{List, [], map}
 use lib.ListN.{length, getD}
-use Rattle.job.specs.Line.{isReserved, functionOf}
+use Rattle.job.specs.Line.{isReserved, functionOf, kindSent}
 use Rattle.job.specs.Message.{groupsFrom}
 use Rattle.job.specs.Submission.{Submission}
 use Rattle.job.specs.Pages.{pagesOf, digitsIn}
@@ -25,7 +25,7 @@ sendingFrom identity kind digits = record { identity = identity; function = func
 
 -- a page of a job as it is sent
 abbrev pub sendingOf : Submission → Page → Sending
-sendingOf s p = sendingFrom (p .identity) (p .kind) (digitsIn s p)
+sendingOf s p = sendingFrom (p .identity) (kindSent (p .kind)) (digitsIn s p)
 
 -- the sendings of a job, in job order
 unfoldable pub sendingsOf : Submission → List Sending

@@ -3,6 +3,7 @@ ghost use mathlib.Core.Path.{_≡_};
 ghost use Prim.Native.Nat.{_+_, _≤_, _<_};
 ghost use lib.ListN.{length};
 ghost use Rattle.base.specs.Lists.{over, tab};
+ghost use Rattle.job.specs.Line.{kindSent};
 ghost use Rattle.job.specs.Submission.{withBook};
 ghost use Rattle.job.specs.Job.{jobOf, readingOf};
 ghost use Rattle.transmission.specs.Sending.{sendingFrom, sendingOf, sendingsOf};
@@ -136,10 +137,10 @@ fn write_packed(
     slot: u32,
     words: &mut [u32],
 )
-    requires { ⌜ length (now groups) ≡ length (sendingFrom identity kind (now text) .groups) ⌝ }
+    requires { ⌜ length (now groups) ≡ length (sendingFrom identity (kindSent kind) (now text) .groups) ⌝ }
     requires { ⌜ (length (now groups) ≤ 84) × (slot < 4800) ⌝ }
     requires { ⌜ slotIndex (slot + length (now groups)) < length (now words) ⌝ }
-    ensures { λ _. ⌜ now (words .exit) ≡ withSending (sendingFrom identity kind (now (text .entry))) slot (now (words .entry)) ⌝ }
+    ensures { λ _. ⌜ now (words .exit) ≡ withSending (sendingFrom identity (kindSent kind) (now (text .entry))) slot (now (words .entry)) ⌝ }
 {
     job::write_groups(kind, text, groups);
     write_sending(identity, job::function(kind), groups, slot, words);

@@ -199,7 +199,7 @@ fn answer_front(bytes: &[u8], n: usize) {
     print_answer(answer);
 }
 
-// `P 41|4243|/000009 9 01|`: the kind as which a job's first page is sent, and its text.
+// `P 41|4243|/000009 9 01|`: the function with which a job's first page is sent, and its text.
 fn page(line: &[u8]) {
     if line.len() < 2 {
         return;
@@ -215,8 +215,8 @@ fn page_front(bytes: &[u8], n: usize) {
     let job = job_of(question);
     let book = book_of(question);
     let first = job::read_job(job, book).pages[0];
-    print(b" kind ");
-    print_number(first.kind as u64);
+    print(b" function ");
+    print_number(job::function(first.kind) as u64);
     print(b" text ");
     print(job::page_text(job, book, first));
 }

@@ -7,7 +7,8 @@ use Rattle.base.specs.Hex.{bytesOf}
 use Rattle.base.specs.Lists.{tab}
 use Rattle.text.specs.Coding.{groupOf}
 use Rattle.text.specs.declared.Coding.{Coding}
-use Rattle.job.proofs.Message.{told-data, told-text}
+use Rattle.job.specs.Line.{kindSent}
+use Rattle.job.proofs.Message.{data-sent, coding-sent, told-data, told-text}
 use Rattle.job.proofs.write_groups.Statement.{statement}
 use Rattle.job.proofs.write_groups.Tie as tie
 
@@ -25,7 +26,7 @@ returns c =
     let taken = c .before .before .before .before in
     let a = taken .before .before .before .before .args in
     c .before .before .write-fives .ensures
-    ∙ told-data (a .kind) (now (a .digits)) (length (now (a .groups))) (sym (taken .before .is-data .ensures) ∙ taken .if1 .taken)
+    ∙ told-data (kindSent (a .kind)) (now (a .digits)) (length (now (a .groups))) (data-sent (a .kind) ∙ sym (taken .before .is-data .ensures) ∙ taken .if1 .taken)
 
 coding-requires : tie.Need-coding-requires
 coding-requires c κs = search needs
@@ -43,8 +44,8 @@ returns-2 c =
     let digits = now (a .digits) in
     let n = length (now (a .groups)) in
     c .before .before .write-groups .ensures
-    ∙ ap (λ (x : Coding). tab (groupOf x (bytesOf digits)) n) (c .before .before .before .before .coding .ensures)
-    ∙ told-text (a .kind) digits n (sym (left .before .is-data .ensures) ∙ left .if1 .left)
+    ∙ ap (λ (x : Coding). tab (groupOf x (bytesOf digits)) n) (c .before .before .before .before .coding .ensures ∙ sym (coding-sent (a .kind)))
+    ∙ told-text (kindSent (a .kind)) digits n (data-sent (a .kind) ∙ sym (left .before .is-data .ensures) ∙ left .if1 .left)
 
 pub write-groups-spec : {M : Type 1} → statement M
 write-groups-spec =

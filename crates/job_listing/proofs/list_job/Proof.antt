@@ -1,7 +1,7 @@
 -- `job_listing::list_job` meets its contract. Assumes nothing.
 use mathlib.Core.Path.{_≡_, refl, sym, ap, ap₂, _∙_}
 use mathlib.Core.List.{List}
-use Prim.Native.Nat.{ℕ, _≤_}
+use Prim.Native.Nat.{ℕ}
 use native.Mathlib.Omega.{arith}
 use lib.ListN.{length, take}
 use borrow.Author.Needs.{needs}
@@ -15,7 +15,6 @@ use Rattle.transmission.specs.Report.{reportOf, wordsSent}
 use Rattle.transmission.specs.declared.Report.{Report}
 use Rattle.transmission.specs.declared.Report.the-variants.{Sent}
 use Rattle.job_listing.specs.Listed.{writtenInto, bytesListed}
-use Rattle.job_listing.specs.declared.Listed.{Listed}
 use Rattle.job_listing.proofs.ListedLaws.{sent, declined, roomy, front}
 use Rattle.job_listing.proofs.list_job.Statement.{statement}
 use Rattle.job_listing.proofs.list_job.Tie as tie

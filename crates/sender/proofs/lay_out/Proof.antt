@@ -9,6 +9,7 @@ use Rattle.base.specs.Lists.{over, tab}
 use Rattle.base.proofs.ListLaws.{to-end}
 use Rattle.codeword.specs.Code.{codeword, addressBits, messageBits}
 use Rattle.job.specs.Submission.{Submission, withBook}
+use Rattle.job.specs.Line.{kindSent}
 use Rattle.job.specs.Message.{groupFrom}
 use Rattle.job.specs.Pages.{noPage, digitsIn}
 use Rattle.transmission.specs.Sending.{Sending, sendingsOf, sendingAt}
@@ -177,7 +178,7 @@ loop-again c =
     let old = now (b .args .words) in
     let page = getD (b .args .t3 .pages) (l .i) noPage in
     let identity = page .identity in
-    let kind = page .kind in
+    let kind = kindSent (page .kind) in
     let digits = digitsIn s page in
     let groups = c .before .before .before .before .before .before .before .before .groups .result in
     let x = page-sending s (b .args .n) ok (b .pre .0 .0) (l .i) h in

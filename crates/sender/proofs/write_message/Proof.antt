@@ -10,6 +10,7 @@ use lib.Seq.{length-take-le, drop-at}
 use Rattle.base.specs.Lists.{over, tab}
 use Rattle.base.proofs.ListLaws.{filled, filled-turn, filled-over, over-length, tab-length, tab-at, tab-same}
 use Rattle.codeword.specs.Code.{codeword, messageBits}
+use Rattle.job.specs.Line.{kindSent}
 use Rattle.job.specs.Message.{groupFrom}
 use borrow.Author.Needs.{needs}
 use Rattle.sender.proofs.write_message.Statement.{statement}
@@ -63,7 +64,7 @@ loop-holds c =
     let packed = c .before .before in
     let start = packed .before .before .before .before in
     let a = start .args in
-    (omega arith, omega (arith, start .pre, lent-length (groupFrom (a .kind) (now (a .text))) (a .n) (now (a .out)) (start .pre) (packed .write-groups .ensures)), refl, refl)
+    (omega arith, omega (arith, start .pre, lent-length (groupFrom (kindSent (a .kind)) (now (a .text))) (a .n) (now (a .out)) (start .pre) (packed .write-groups .ensures)), refl, refl)
 
 mul-message : tie.Need-mul-message Inv-loop μ-loop
 mul-message c = search needs
@@ -111,7 +112,7 @@ same-length c =
     let packed = c .before .before .before .before in
     let start = packed .before .before .before .before in
     let a = start .args in
-    c .before .loop .inv .2 ∙ lent-length (groupFrom (a .kind) (now (a .text))) (a .n) (now (a .out)) (start .pre) (packed .write-groups .ensures)
+    c .before .loop .inv .2 ∙ lent-length (groupFrom (kindSent (a .kind)) (now (a .text))) (a .n) (now (a .out)) (start .pre) (packed .write-groups .ensures)
 
 returns : tie.Need-returns Inv-loop μ-loop
 returns c =
@@ -119,7 +120,7 @@ returns c =
     let packed = c .before .before .before .before in
     let start = packed .before .before .before .before in
     let a = start .args in
-    let f = groupFrom (a .kind) (now (a .text)) in
+    let f = groupFrom (kindSent (a .kind)) (now (a .text)) in
     let old = packed .write-groups .last .1 .1 .0 ++ drop (a .n) (now (a .out)) in
     let e : l .i ≡ length (coded old (a .n)) = omega (arith, tab-length (λ k. codeword (messageBits (getD old k 0))) (a .n)) in
     l .inv .3 ∙ ap (filled old (coded old (a .n))) e ∙ filled-over old (coded old (a .n)) ∙ replaced f (a .n) (now (a .out)) (lent f (a .n) (now (a .out)) (start .pre) (packed .write-groups .ensures))

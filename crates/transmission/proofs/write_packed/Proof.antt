@@ -2,6 +2,7 @@
 use mathlib.Core.Path.{ap, _∙_}
 use borrow.Author.Needs.{needs}
 use lib.ListN.{length}
+use Rattle.job.specs.Line.{kindSent}
 use Rattle.transmission.specs.Sending.{Sending}
 use Rattle.transmission.specs.Writing.{withSending}
 use Rattle.transmission.proofs.Begun.{packed-sending}
@@ -32,7 +33,7 @@ returns c =
     let a = start .args in
     done .write-sending .ensures
     ∙ ap (λ (x : Sending). withSending x (a .slot) (a .words .now))
-    (packed-sending (a .identity) (a .kind) (a .text .now) (length (a .groups .now)) (start .pre .0) (told .function .ensures) (packed .write-groups .ensures))
+    (packed-sending (a .identity) (kindSent (a .kind)) (a .text .now) (length (a .groups .now)) (start .pre .0) (told .function .ensures) (packed .write-groups .ensures))
 
 pub write-packed-spec : {M : Type 1} → statement M
 write-packed-spec =

@@ -5,6 +5,7 @@ use Prim.Native.Nat.{ℕ, _≤_}
 use borrow.Author.Needs.{needs}
 use lib.ListN.{length, take, replicate}
 use lib.Seq.{length-take-le}
+use Rattle.job.specs.Line.{kindSent}
 use Rattle.transmission.specs.Sending.{sendingFrom}
 use Rattle.transmission.specs.Writing.{withSending}
 use Rattle.transmission.proofs.write_page.Statement.{statement}
@@ -37,7 +38,7 @@ returns c =
     let packed = c .before .before .before in
     let text = packed .before .before .before in
     let a = text .before .before .before .before .args in
-    packed .write-packed .ensures ∙ ap (λ (digits : List ℕ). withSending (sendingFrom (a .page .identity) (a .page .kind) digits) (a .slot) (a .words .now)) (text .page-text .ensures .1)
+    packed .write-packed .ensures ∙ ap (λ (digits : List ℕ). withSending (sendingFrom (a .page .identity) (kindSent (a .page .kind)) digits) (a .slot) (a .words .now)) (text .page-text .ensures .1)
 
 pub write-page-spec : {M : Type 1} → statement M
 write-page-spec =
