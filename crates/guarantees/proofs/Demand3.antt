@@ -1,7 +1,5 @@
 -- Demand 3 of every job: `demand3` proves the record of specs/Demand3.antt. Assumes nothing.
 use mathlib.Core.Path.{sym}
-use mathlib.Core.List.{List}
-use Prim.Native.Nat.{ℕ}
 use lib.ListN.{length}
 use Rattle.sender.proofs.Stepping.{job-stepping}
 use Rattle.job.specs.Submission.{Submission}

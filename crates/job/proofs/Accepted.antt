@@ -24,7 +24,7 @@ use Rattle.job.specs.declared.LineAnswer.{LineAnswer}
 use Rattle.job.specs.declared.LineAnswer.the-variants.{Good, Faulty}
 use Rattle.job.specs.declared.JobAnswer.{JobAnswer}
 use Rattle.job.specs.declared.JobAnswer.the-variants.{Accepted, Refused}
-use Rattle.job.proofs.Laws.{judge-unended, pages-next, pages-none}
+use Rattle.job.proofs.Laws.{judge-unended, pages-next}
 use Rattle.job.proofs.Plain.{Fine, fine}
 
 -- ---- what an accepting answer says of the tests that led to it

@@ -19,7 +19,7 @@ use Rattle.job.specs.Job.{after, judge, jobOf}
 use Rattle.job.specs.Refusal.{numberOf, positionOf, jobNumber, jobPlace, jobPosition}
 use Rattle.job.specs.FirstBad.{FirstBad, Positioned}
 use Rattle.job.specs.declared.Refusal.{Refusal}
-use Rattle.job.specs.declared.Refusal.the-variants.{Malformed, IdentityRange, IdentityReserved, UnknownKind, PartialGroup, ToneWithText, TextMissing, TextTooLong, NoPhrase, Character, TrailingSpace, TooManyLines, EmptyJob, BadBook}
+use Rattle.job.specs.declared.Refusal.the-variants.{Malformed, IdentityRange, IdentityReserved, UnknownKind, PartialGroup, ToneWithText, TextMissing, TextTooLong, Character, TrailingSpace, TooManyLines, EmptyJob, BadBook}
 use Rattle.job.specs.declared.Page.{Page}
 use Rattle.job.specs.declared.LineAnswer.{LineAnswer}
 use Rattle.job.specs.declared.LineAnswer.the-variants.{Good, Faulty}

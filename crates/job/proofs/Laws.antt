@@ -1,7 +1,7 @@
 -- Laws of the definitions of `specs/`: what a line and a job say, case by case. Assumes nothing.
 use Prim.Native.Nat.{ℕ, _+_, _-_, _%_, _≤_, _<_}
 use mathlib.Core.Path.{_≡_, ap, _∙_}
-use mathlib.Core.List.{List, [], _∷_}
+use mathlib.Core.List.{List, _∷_}
 use mathlib.Core.Bool.{Bool, true, false, cond, not}
 use mathlib.Core.Logic.{_⊎_, ⊎-elim, inl, inr}
 use native.Mathlib.Omega.{arith}
@@ -119,7 +119,3 @@ module _ (b s : List ℕ) (at : ℕ) where
   pages-next h =
       ap (pagesFrom b at) (cut s at h)
       ∙ ap (λ (x : ℕ). pageIn (lineOf b at (first s at)) ∷ pagesFrom b x (split (drop (lineEnd s at + 1) s))) (first-next s at h)
-
-  pub pages-none : at ≤ length s → length s ≤ lineEnd s at → pagesFrom b at (split (drop at s)) ≡ []
-  unfolding pagesFrom
-  pages-none h u = rw (uncut s at h u)

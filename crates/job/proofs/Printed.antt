@@ -1,22 +1,21 @@
 -- The line that an accepted page's line stands for prints as it was. Assumes nothing.
 use mathlib.Core.Path.{_≡_, refl, sym, ap, ap₂, _∙_}
-use mathlib.Core.Bool.{Bool, true, false, _&&_, _||_}
+use mathlib.Core.Bool.{true, _&&_}
 use mathlib.Core.List.{List, [], _∷_, _++_, append-assoc}
 use mathlib.Core.Logic.{⊎-elim}
-use Prim.Native.Nat.{ℕ, suc, _%_, _≤_, _<_}
+use Prim.Native.Nat.{ℕ, suc, _%_, _≤_}
 use native.Mathlib.Omega.{arith}
 use lib.ListN.{length, getD, take, drop, take-append-drop}
 use lib.Seq.{drop-cons, drop-drop, length-take-le}
 use lib.Dec.{leb, eqb}
 use borrow.Author.Tests.{leb-true, eqb-true}
-use Rattle.base.specs.Hex.{isHex, hexOf, digitOf, digitsOf, hexNumber}
+use Rattle.base.specs.Hex.{isHex, digitOf, digitsOf}
 use Rattle.base.specs.Leading.{leading}
 use Rattle.base.proofs.Bools.{and-true, or-true}
 use Rattle.base.proofs.HexLaws.{hex-small, value-digit, number-digits}
 use Rattle.job.specs.Line.{allHex, headFormed, textFormed, tailFormed, wellFormed, identityOf, kindOf, textDigits}
 use Rattle.job.specs.Pages.{plainAt}
 use Rattle.job.specs.Print.{headOf, spaced, printed}
-use Rattle.job.specs.Accepted.{Sound, PageRead, AcceptedJob}
 use Rattle.job.specs.PrintsBack.{LinePrinted, PagePrinted}
 use Rattle.job.proofs.Laws.{digits-some, formed-digits}
 use Rattle.job.proofs.PrintLaws.{spaced-some}

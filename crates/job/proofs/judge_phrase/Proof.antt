@@ -1,11 +1,8 @@
 -- `job::judge_phrase` meets its contract. Assumes nothing.
-use mathlib.Core.Path.{sym, ap, _∙_}
 use lib.ListN.{length}
 use denote.Ref.{now}
 use borrow.Author.Tests.{eq-eqb, ne-eqb}
 use borrow.Author.Needs.{needs}
-use Rattle.phrases.specs.declared.Phrase.{Phrase}
-use Rattle.job.specs.Line.{phrasePageOf}
 use Rattle.job.proofs.judge_phrase.Statement.{statement}
 use Rattle.job.proofs.judge_phrase.Tie as tie
 
