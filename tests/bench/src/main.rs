@@ -121,6 +121,8 @@ impl Bench {
         let mixed = jobs::pages(&mut self.random, 48, &[0, 1, 2, 3, 4, 5, 6, 7], &[0, 1, 2, 3, 4, 5, 6, 7]);
         let data = jobs::maximal_data(&mut self.random, &[3]);
         let tones = jobs::pages(&mut self.random, 48, &[5], &[0]);
+        let sentences = jobs::phrases(&mut self.random, 30, &[3]);
+        let thirty = books::of_length(&mut self.random, 30, 40);
         let (phrases, longest) = jobs::maximal_phrases(&mut self.random, &[3]);
         for (name, job, book) in [
             ("1 numeric page of 10 characters", &b"12D687 4 30313233343536373839\n"[..], NO_BOOK),
@@ -129,6 +131,7 @@ impl Bench {
             ("48 alphanumeric pages of 240 characters in one frame", &maximal, NO_BOOK),
             ("48 data pages of 84 groups in one frame", &data, NO_BOOK),
             ("1 phrase of a short book", b"12D687 9 04\n", books::SHORT),
+            ("48 phrases of 40 characters in one frame, a book of 30", &sentences, &thirty),
             ("48 phrases of 240 characters in one frame, the longest book", &phrases, &longest),
         ] {
             self.send_row(name, job, book);

@@ -31,9 +31,14 @@ pub fn good(random: &mut Random, phrases: usize) -> Vec<u8> {
     (0..phrases).flat_map(|_| phrase(random)).collect()
 }
 
+/// A good book of so many phrases, each of so many characters.
+pub fn of_length(random: &mut Random, phrases: usize, length: usize) -> Vec<u8> {
+    (0..phrases).flat_map(|_| line(&alphanumeric_text(random, length))).collect()
+}
+
 /// The longest book: 100 phrases of 240 characters.
 pub fn longest(random: &mut Random) -> Vec<u8> {
-    (0..MOST_PHRASES).flat_map(|_| line(&alphanumeric_text(random, MOST_ALPHANUMERIC))).collect()
+    of_length(random, MOST_PHRASES, MOST_ALPHANUMERIC)
 }
 
 /// A line that is no phrase.

@@ -158,14 +158,19 @@ pub fn maximal_data(random: &mut Random, frames: &[u32]) -> Vec<u8> {
     job
 }
 
-/// As many from a book: 48 pages, each with one of 100 phrases of 240 characters. With the book.
-pub fn maximal_phrases(random: &mut Random, frames: &[u32]) -> (Vec<u8>, Vec<u8>) {
+/// 48 pages, each with one of so many phrases.
+pub fn phrases(random: &mut Random, phrases: usize, frames: &[u32]) -> Vec<u8> {
     let mut job = Vec::new();
     for _ in 0..48 {
         let identity = identity(random, frames);
-        job.extend(line_of_digits(identity, 9, phrase_number(random, books::MOST_PHRASES).as_bytes()));
+        job.extend(line_of_digits(identity, 9, phrase_number(random, phrases).as_bytes()));
     }
-    (job, books::longest(random))
+    job
+}
+
+/// As many message codewords from a book: 48 pages, each with one of 100 phrases of 240 characters. With the book.
+pub fn maximal_phrases(random: &mut Random, frames: &[u32]) -> (Vec<u8>, Vec<u8>) {
+    (phrases(random, books::MOST_PHRASES, frames), books::longest(random))
 }
 
 /// `count` alphanumeric pages of the same length.
