@@ -32,7 +32,7 @@ unfoldable pub lineCount : Lines → ℕ
 lineCount (behind s) = 0
 lineCount (line l ls) = suc (lineCount ls)
 
--- the byte at which the line at index p starts; 0 where there is none
+-- the byte at which the line at index p starts; where there is none, the byte behind the last newline
 unfoldable pub lineStart : ℕ → Lines → ℕ
 lineStart p (behind s) = 0
 lineStart zero (line l ls) = 0

@@ -30,15 +30,15 @@ pageLine s p = plainAt s p ++ (10 ∷ [])
 abbrev pub inSlotOrder : Submission → List ℕ
 inSlotOrder s = order (placementOf (sendingsOf s))
 
--- its own page lines in that order, one after the other
+-- the lines of its pages in that order, one after the other
 abbrev pub linesInOrder : Submission → List ℕ
 linesInOrder s = flatMap (pageLine s) (inSlotOrder s)
 
--- the texts' half: a page that is heard as it was sent has the line that it had in its job. `line-back` in proofs/LineBack.antt
+-- the texts' half: a page that is heard as it was sent has the line that its job's line stands for. `line-back` in proofs/LineBack.antt
 abbrev pub LineBack : Type 0
 LineBack = (s : Submission) (n : ℕ) → jobOf s ≡ Accepted n → (p : ℕ) → p < n → lineHeard (hearingOf (sendingAt (sendingsOf s) p)) ≡ pageLine s p
 
--- an answer to reading the words behind the preamble that gives the n pages of a job back: nothing lost, no orphans, the job's own lines in
+-- an answer to reading the words behind the preamble that gives the n pages of a job back: nothing lost, no orphans, its lines in
 -- the order of their slots, and as many bits changed as were flipped
 abbrev pub GivesBack : Submission → ℕ → List ℕ → ℕ → Reading → List ℕ → Type 0
 GivesBack s n words room answer behind = Gives (linesInOrder s) n 0 0 (flipsIn (sendingsOf s) words) room answer behind

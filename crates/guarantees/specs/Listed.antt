@@ -21,7 +21,7 @@ use Rattle.guarantees.specs.Gives.{Gives}
 use Rattle.guarantees.specs.Transport.{Received}
 use Rattle.guarantees.specs.Demand2.{linesInOrder, SamePages}
 
--- reading this text as a listing gives the n pages of a job back: its own lines in the order of their slots, nothing lost, no orphans, and
+-- reading this text as a listing gives the n pages of a job back: its lines in the order of their slots, nothing lost, no orphans, and
 -- no bit changed
 abbrev pub ListsPages : Submission → ℕ → List ℕ → Type 0
 ListsPages s n text =

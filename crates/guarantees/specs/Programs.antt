@@ -36,7 +36,7 @@ output n left = take n left
 pub record Programs (s : Submission) : Type 0 where
   -- the sending program prints its listing
   pub sent : (old left : List ℕ) (n : ℕ) → ProgramCall sendPrints s old n left → output n left ≡ listingText s
-  -- what it prints, read by a reading program, gives the job's own page lines in the order of their slots
+  -- what it prints, read by a reading program, gives the lines of the job's pages in the order of their slots
   pub read-back : (old left old' left' : List ℕ) (n n' : ℕ) → ProgramCall sendPrints s old n left → ProgramCall readPrints (output n left) old' n' left'
       → output n' left' ≡ linesInOrder s
   -- and so does the listing of all words received for the listed ones with at most two flips in each sync and each frame codeword

@@ -1,7 +1,7 @@
 -- What a good line stands for is sound, and its page has it. Assumes nothing.
 use Prim.Native.Nat.{ℕ, _≤_}
 use mathlib.Core.Path.{_≡_, refl, sym, ap, _∙_}
-use mathlib.Core.List.{List, [], _∷_, _++_}
+use mathlib.Core.List.{List, [], _∷_}
 use mathlib.Core.Bool.{true}
 use mathlib.Core.Logic.{⊎-elim}
 use native.Mathlib.Omega.{arith}
@@ -17,7 +17,7 @@ use Rattle.phrases.proofs.Found.{found}
 use Rattle.phrases.proofs.Phrases.{two-digits}
 use Rattle.job.specs.Submission.{withBook}
 use Rattle.job.specs.Line.{isData, kindSent, allHex, isPairs, headFormed, textFormed, tailFormed, wellFormed, identityOf, kindOf, textDigits, pageFrom, lineOf}
-use Rattle.job.specs.Pages.{digitsIn, plain}
+use Rattle.job.specs.Pages.{digitsIn, phrased, plain}
 use Rattle.job.specs.Accepted.{TextSound, Sound}
 use Rattle.job.specs.declared.Page.{Page}
 use Rattle.job.specs.declared.LineAnswer.the-variants.{Good}
@@ -76,10 +76,6 @@ view (a ∷ b ∷ c ∷ d ∷ e ∷ []) n = absurd (omega arith)
 view (a ∷ b ∷ c ∷ d ∷ e ∷ f ∷ []) n = absurd (omega arith)
 view (a ∷ b ∷ c ∷ d ∷ e ∷ f ∷ g ∷ []) n = absurd (omega arith)
 view (a ∷ b ∷ c ∷ d ∷ e ∷ f ∷ g ∷ h ∷ r) n = eight a b c d e f g h r
-
--- kind 5 and other digits in its place
-abbrev phrased : List ℕ → List ℕ → List ℕ
-phrased l ds = take 7 l ++ (53 ∷ 32 ∷ ds)
 
 record Phrased (l ds : List ℕ) : Type 0 where
   formed : wellFormed (phrased l ds) ≡ true

@@ -54,7 +54,7 @@ pub record PageRead (s : Submission) (p : ℕ) : Type 0 where
   pub line-kind : pageAt s p .kind ≡ kindOf (lineAt p (split (s .job)))
   pub phrased : pageAt s p .kind ≡ 9 → (kindAt s p ≡ 5) × (digitsAt s p ≡ phraseOf (s .book) (textDigits (lineAt p (split (s .job)))))
 
--- a job of n pages: 1 to 48, each of a sound line
+-- a job of n pages: 1 to 48, each of a line that stands for a sound one
 pub record AcceptedJob (s : Submission) (n : ℕ) : Type 0 where
   pub least : 1 ≤ n
   pub most : n ≤ 48

@@ -46,9 +46,13 @@ digitsIn s page = take (page .length) (drop (page .start) (sourceOf (page .kind)
 abbrev pub digitsAt : Submission → ℕ → List ℕ
 digitsAt s p = digitsIn s (pageAt s p)
 
--- the line that a line stands for: in one of kind 9, kind 5 (the digit 53) and the phrase; any other stands for itself
+-- a line with kind 5 (the digit 53) and these digits in the place of its own
+abbrev pub phrased : List ℕ → List ℕ → List ℕ
+phrased l digits = take 7 l ++ (53 ∷ 32 ∷ digits)
+
+-- the line that a line stands for: one of kind 9 for that of kind 5 with the phrase, any other for itself
 unfoldable pub plain : List ℕ → List ℕ → List ℕ
-plain b l = cond (eqb (kindOf l) 9) (take 7 l ++ (53 ∷ 32 ∷ phraseOf b (textDigits l))) l
+plain b l = cond (eqb (kindOf l) 9) (phrased l (phraseOf b (textDigits l))) l
 
 -- that of line p of a job
 abbrev pub plainAt : Submission → ℕ → List ℕ
