@@ -54,6 +54,11 @@ readingFor r =
       changed = reading.changedRead r;
     }
 
+-- that of a declined one: the counts are zero
+abbrev pub unreadFor : ℕ → ℕ → CardReading
+unreadFor place number =
+    record { place = place; bytes = 0; number = number; pages = 0; lost = 0; orphans = 0; changed = record { slots = 0; syncs = 0 } }
+
 -- the answer to a job whose sending is to start
 abbrev pub refusalFor : JobAnswer → CardRefusal
 refusalFor a = record { place = jobPlace a; position = jobPosition a; number = jobNumber a }

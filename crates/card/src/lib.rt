@@ -12,7 +12,7 @@ ghost use Rattle.listing.specs.Words.{wordsOf};
 ghost use Rattle.reader.specs.Answers.{readWords, readListing, linesRead};
 ghost use Rattle.sender.specs.Start.{startedOf};
 ghost use Rattle.sender.specs.Step.{stateFrom, stepOf};
-ghost use Rattle.card.specs.Answers.{wordFor, reportFor, bytesFor, readingFor, refusalFor, stateFor, stepFor};
+ghost use Rattle.card.specs.Answers.{wordFor, reportFor, bytesFor, readingFor, unreadFor, refusalFor, stateFor, stepFor};
 use codeword::Correction;
 use codeword::Engine;
 use job::JobAnswer;
@@ -211,6 +211,21 @@ pub extern "C" fn card_list<'a>(job: &'a [u8], book: &'a [u8], out: &mut [u8]) -
     listed_numbers(listed)
 }
 
+// A reading that is declined, as numbers.
+fn unread(place: usize, number: u32) -> CardReading
+    ensures { λ r. ⌜ r ≡ unreadFor place number ⌝ }
+{
+    CardReading {
+        place: place,
+        bytes: 0,
+        number: number,
+        pages: 0,
+        lost: 0,
+        orphans: 0,
+        changed: Changes { slots: 0, syncs: 0 },
+    }
+}
+
 // A reading's answer as numbers.
 fn reading_numbers(r: Reading) -> CardReading
     ensures { λ n. ⌜ n ≡ readingFor r ⌝ }
@@ -233,15 +248,8 @@ fn reading_numbers(r: Reading) -> CardReading
             orphans: orphans,
             changed: changed,
         },
-        Reading::Declined(_) => CardReading {
-            place: place,
-            bytes: 0,
-            number: number,
-            pages: 0,
-            lost: 0,
-            orphans: 0,
-            changed: Changes { slots: 0, syncs: 0 },
-        },
+        Reading::Declined(_) => unread(place, number),
+        Reading::NoRoom => unread(place, number),
     }
 }
 

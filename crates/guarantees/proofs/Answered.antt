@@ -19,9 +19,10 @@ use Rattle.listing.specs.ReadBack.{OfBatches, ReadBack}
 use Rattle.listing.proofs.Back.{read-back}
 use Rattle.reader.specs.Reading.{Hearing, Heard, heardIn}
 use Rattle.reader.specs.Lines.{lineHeard, linesHeard}
-use Rattle.reader.specs.Answers.{unsynced, firstUnsynced, printedInto, readBatches, readWords, readListing}
+use Rattle.reader.specs.Answers.{unsynced, firstUnsynced, judgeBatches, judgeWords, judgeListing, printedInto, readWords, readListing}
 use Rattle.reader.specs.declared.Reading.{Reading}
-use Rattle.reader.proofs.AnswerLaws.{none-unsynced, batches-read, words-read}
+use Rattle.reader.specs.declared.Verdict.the-variants.{Sound}
+use Rattle.reader.proofs.AnswerLaws.{none-unsynced, batches-sound, words-few}
 use Rattle.guarantees.specs.Transport.{Received, HeardAs}
 use Rattle.guarantees.specs.Gives.{Gives}
 use Rattle.guarantees.proofs.Received.{size}
@@ -34,16 +35,16 @@ lines-are f line [] h = refl
 lines-are f line (p ∷ ps) h =
     ap₂ (λ (x y : List ℕ). x ++ y) (h 0 (suc-le-suc zero-le)) (lines-are f line ps (λ k l. h (suc k) (suc-le-suc l)))
 
--- ---- whole batches that all begin with sync
+-- ---- whole batches that all begin with sync can be read
 
-module _ (words : List ℕ) (b room : ℕ) (e : length words ≡ 17 * b) (synced : (q : ℕ) → q < b → unsynced words q ≡ false) where
-  batches-heard : readBatches words room ≡ printedInto (heardIn words) room
-  batches-heard =
+module _ (words : List ℕ) (b : ℕ) (e : length words ≡ 17 * b) (synced : (q : ℕ) → q < b → unsynced words q ≡ false) where
+  sound-batches : judgeBatches words ≡ Sound
+  sound-batches =
       let all : length words / 17 ≡ firstUnsynced words = none-unsynced words (length words / 17) refl (λ q l. synced q (omega arith)) in
-      sym (batches-read words room (omega arith))
+      sym (batches-sound words (omega arith))
 
-  words-heard : 1 ≤ b → b ≤ 300 → readWords words room ≡ readBatches words room
-  words-heard some few = sym (words-read words room (λ z. omega arith) (omega arith) (omega arith))
+  sound-words : 1 ≤ b → b ≤ 300 → judgeWords words ≡ Sound
+  sound-words some few = sym (words-few words (λ z. omega arith) (omega arith) (omega arith)) ∙ sound-batches
 
 -- ---- an answer by its room
 
@@ -68,11 +69,12 @@ module _ (xs : List Sending) (a : AllAllowed xs) (most : ℕ) (words : List ℕ)
   abbrev b : ℕ
   b = batches (placementOf xs)
 
-  batches-given : readBatches (drop 18 words) room ≡ printedInto h room
-  batches-given = batches-heard (drop 18 words) b room (t .whole) (t .synced) ∙ ap (λ (x : Heard). printedInto x room) (t .heard)
+  given : printedInto (heardIn (drop 18 words)) room ≡ printedInto h room
+  given = ap (λ (x : Heard). printedInto x room) (t .heard)
 
   words-given : readWords (drop 18 words) room ≡ printedInto h room
-  words-given = words-heard (drop 18 words) b room (t .whole) (t .synced) (batches-least a) (sendings-limits a .most) ∙ batches-given
+  unfolding readWords
+  words-given = rw (sound-words (drop 18 words) b (t .whole) (t .synced) (batches-least a) (sendings-limits a .most)) given
 
   of-batches : OfBatches words b
   of-batches =
@@ -87,8 +89,8 @@ module _ (xs : List Sending) (a : AllAllowed xs) (most : ℕ) (words : List ℕ)
   listed = read-back words b of-batches
 
   listing-given : readListing (textOf words) room ≡ printedInto h room
-  unfolding readListing
-  listing-given = rw (listed .batches, listed .form) batches-given
+  unfolding readListing judgeListing
+  listing-given = rw (listed .batches, listed .form, sound-batches (drop 18 words) b (t .whole) (t .synced)) given
 
   pub from-words : GivesHeard h room (readWords (drop 18 words) room) (drop 18 words)
   from-words = rw words-given (gives h room (drop 18 words) (t .heard))

@@ -7,8 +7,8 @@ use mathlib.Core.Logic.{⊎-elim}
 use native.Mathlib.Omega.{arith}
 use borrow.Author.Tests.{eqb-true, eqb-false}
 use lib.Dec.{eqb}
-use lib.ListN.{length, take, drop, replicate, length-append}
-use lib.Seq.{take-take, take-at, drop-drop, length-take-le}
+use lib.ListN.{length, take, drop, replicate}
+use lib.Seq.{take-take, drop-drop, length-take-le}
 use Rattle.base.specs.Hex.{hexNumber}
 use Rattle.base.specs.Lines.{Lines, behind, line, split, lineAt}
 use Rattle.base.specs.Lists.{over, tab, padded}
@@ -112,15 +112,10 @@ words-indexed s p b e =
     rw (e, f .1) (indexed s p b (split (drop (18 * p) s)) 0 (2 * p) (17 * b) (rw z) (f .2) (omega arith) (omega arith) refl)
 
 pub formed : (s : List ℕ) (p b : ℕ) → listingOf s ≡ WellFormed p b → Formed s p b
-formed s p b e =
-    let words = wordsOf s in
-    let count : length words ≡ 17 * b = ap length (words-indexed s p b e) ∙ tab-length (λ i. wordAt s (2 * p + i)) (17 * b) in
-    record {
-      limits = listing-formed s p b e .0;
-      count = count;
-      inside = omega (arith, length-append words (replicate (5100 - length words) 0));
-      front = take-at words (replicate (5100 - length words) 0) (17 * b) count;
-    }
+formed s p b e = record {
+  limits = listing-formed s p b e .0;
+  count = ap length (words-indexed s p b e) ∙ tab-length (λ i. wordAt s (2 * p + i)) (17 * b);
+}
 
 -- ---- what decoding returns
 

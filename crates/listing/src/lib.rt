@@ -7,7 +7,7 @@ ghost use Rattle.base.specs.Lines.{split};
 ghost use Rattle.base.specs.Lists.{over};
 ghost use Rattle.listing.specs.Text.{endOf};
 ghost use Rattle.listing.specs.Listing.{hasOne, hasTwo, preambleOf, isDue, batches, listingOf};
-ghost use Rattle.listing.specs.Answers.{numberOf, placeOf, decodedOf};
+ghost use Rattle.listing.specs.Answers.{numberOf, placeOf, batchesOf, decodedOf};
 ghost use Rattle.listing.specs.Writing.{writingOf, afterWrite};
 ghost use Rattle.listing.specs.Scan.{lineFrom, wordsIf, wordsMet, wordsDecoded};
 ghost use Rattle.listing.specs.declared.Fault.the-variants.{Malformed, TooMany};
@@ -40,6 +40,19 @@ pub enum Writing {
     Bytes(usize),
     // The lent slice is shorter than the listing: number 10.
     NoRoom,
+}
+
+// How many batches a listing has; none where it is declined.
+pub fn batch_count(l: Listing) -> usize
+    ensures { λ r. ⌜ r ≡ batchesOf l ⌝ }
+{
+    match l {
+        Listing::WellFormed {
+            preamble: _,
+            batches,
+        } => batches,
+        Listing::Declined(_) => 0,
+    }
 }
 
 // The number of a byte string in the table; 0 where it is a listing.

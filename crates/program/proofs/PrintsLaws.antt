@@ -24,7 +24,7 @@ use Rattle.reader.specs.Lines.{linesHeard}
 use Rattle.reader.specs.Answers.{readListing, linesRead, numberOf, placeOf}
 use Rattle.reader.specs.declared.Changes.{Changes}
 use Rattle.reader.specs.declared.Fault.{Fault}
-use Rattle.reader.specs.declared.Fault.the-variants.{Malformed, TooMany, Unsynced, NoRoom as NoBytes}
+use Rattle.reader.specs.declared.Fault.the-variants.{Malformed, TooMany, Unsynced}
 use Rattle.reader.specs.declared.Reading.{Reading}
 use Rattle.reader.specs.declared.Reading.the-variants.{Read}
 use Rattle.reader.specs.declared.Reading.the-variants as reading
@@ -105,4 +105,6 @@ module _ (s old : List ℕ) (h : isLong s ≡ false) {out : List ℕ} where
   read-declined n (Malformed line) room e p = read-is s old (reading.Declined (Malformed line)) h room e p
   read-declined n (TooMany line) room e p = read-is s old (reading.Declined (TooMany line)) h room e p
   read-declined n (Unsynced batch) room e p = read-is s old (reading.Declined (Unsynced batch)) h room e p
-  read-declined n NoBytes room e p = read-is s old (reading.Declined NoBytes) h room e p
+
+  pub read-full : (n : ℕ) → length old ≡ 48000 → reading.NoRoom ≡ readListing s (length old) → Printed old (refusalLine 10 0 0) n out → Printed old (readPrints s) n out
+  read-full n room e p = read-is s old reading.NoRoom h room e p

@@ -165,5 +165,6 @@ pub fn read(engine: Engine, input: &[u8], out: &mut [u8; 48000]) -> usize
             bytes,
         } => bytes,
         Reading::Declined(_) => write_refusal(number, place, 0, out),
+        Reading::NoRoom => write_refusal(number, place, 0, out),
     }
 }

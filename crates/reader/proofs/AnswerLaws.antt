@@ -1,29 +1,34 @@
 -- The answers case by case, as the code goes. Assumes nothing.
 use mathlib.Core.Path.{_≡_, refl, sym, ap, ap₂, _∙_}
-use mathlib.Core.Bool.{true, false}
+use mathlib.Core.Bool.{Bool, true, false, not, cond, _||_}
 use mathlib.Core.List.{List, _++_}
 use Prim.Native.Nat.{ℕ, zero, suc, _+_, _*_, _/_, _%_, _≤_, _<_}
 use native.Mathlib.Omega.{arith}
+use lib.Dec.{eqb, ltb}
 use lib.ListN.{length, getD, take, drop, length-take}
 use lib.Seq.{take-length}
-use borrow.Author.Tests.{lt-ltb, le-ltb, eq-eqb, ne-eqb}
+use borrow.Author.Tests.{lt-ltb, le-ltb, ltb-false, eq-eqb, ne-eqb, eqb-true}
 use Rattle.base.specs.Lists.{over}
 use Rattle.base.proofs.SearchLaws.{least-only}
 use Rattle.codeword.specs.Nearest.{nearest}
 use Rattle.listing.specs.Listing.{listingOf}
 use Rattle.listing.specs.Words.{wordsOf}
-use Rattle.listing.specs.declared.Fault as listing-fault
+use Rattle.listing.specs.declared.Listing.{Listing}
 use Rattle.listing.specs.declared.Listing.the-variants as listing
+use Rattle.listing.proofs.Indexed.{formed}
 use Rattle.reader.specs.Meaning.{meaning}
 use Rattle.reader.specs.Reading.{hear, readAt, ended, slotWord, changesIn, heardIn}
 use Rattle.reader.specs.Lines.{linesHeard}
-use Rattle.reader.specs.Answers.{unsynced, firstUnsynced, printedInto, readBatches, readWords, faultOf, readListing}
+use Rattle.reader.specs.Answers.{unsynced, firstUnsynced, judgeBatches, judgeWords, judgeDecoded, judgeListing, printedInto}
+use Rattle.reader.specs.Readable.{Readable, AllReadable}
 use Rattle.reader.specs.Symbols.{said, Tells, stateBy, heardBy}
 use Rattle.reader.specs.Progress.{KeptAll}
 use Rattle.reader.specs.declared.Changes.{Changes}
-use Rattle.reader.specs.declared.Fault.the-variants.{Malformed, TooMany, Unsynced, NoRoom}
+use Rattle.reader.specs.declared.Fault.{Fault}
+use Rattle.reader.specs.declared.Fault.the-variants.{Malformed, TooMany, Unsynced}
 use Rattle.reader.specs.declared.Progress.{Progress}
-use Rattle.reader.specs.declared.Reading.the-variants.{Read, Declined}
+use Rattle.reader.specs.declared.Reading.the-variants.{Read, NoRoom}
+use Rattle.reader.specs.declared.Verdict.the-variants.{Sound, Faulty}
 
 module _ (words : List ℕ) (q : ℕ) where
   -- the search for a batch that does not begin with sync
@@ -47,7 +52,7 @@ module _ {symbols : List ℕ} {p : Progress} {lines : List ℕ} (k : KeptAll sym
 
   module _ (old : List ℕ) (changed : Changes) where
     -- they are longer than the lent slice
-    pub no-room : length old < p .bytes → Declined NoRoom ≡ printedInto (heardBy symbols changed) (length old)
+    pub no-room : length old < p .bytes → NoRoom ≡ printedInto (heardBy symbols changed) (length old)
     no-room h = rw (lt-ltb (length old) (length (linesHeard (heardBy symbols changed .pages))) (omega (arith, k .size)))
 
     -- they go over its front
@@ -85,42 +90,72 @@ module _ (words : List ℕ) where
   heard-same symbols changed t e =
       ap₂ ended (ap (stateBy symbols) (t .count) ∙ state-same symbols (slotWord words) (16 * (length words / 17)) (t .each)) e
 
-  module _ (room : ℕ) where
-    pub batches-unsynced : firstUnsynced words < length words / 17 → Declined (Unsynced (firstUnsynced words + 1)) ≡ readBatches words room
-    unfolding readBatches
-    batches-unsynced h = rw (lt-ltb (firstUnsynced words) (length words / 17) h)
+-- ---- whether words can be read
 
-    pub batches-read : length words / 17 ≤ firstUnsynced words → printedInto (heardIn words) room ≡ readBatches words room
-    unfolding readBatches
-    batches-read h = rw (le-ltb (firstUnsynced words) (length words / 17) h)
+module _ (words : List ℕ) where
+  pub batches-unsynced : firstUnsynced words < length words / 17 → Faulty (Unsynced (firstUnsynced words + 1)) ≡ judgeBatches words
+  unfolding judgeBatches
+  batches-unsynced h = rw (lt-ltb (firstUnsynced words) (length words / 17) h)
 
-    -- ---- words
+  pub batches-sound : length words / 17 ≤ firstUnsynced words → Sound ≡ judgeBatches words
+  unfolding judgeBatches
+  batches-sound h = rw (le-ltb (firstUnsynced words) (length words / 17) h)
 
-    pub words-none : length words ≡ 0 → Declined (Malformed 0) ≡ readWords words room
-    unfolding readWords
-    words-none e = rw (eq-eqb (length words) 0 e)
+  pub words-none : length words ≡ 0 → Faulty (Malformed 0) ≡ judgeWords words
+  unfolding judgeWords
+  words-none e = rw (eq-eqb (length words) 0 e)
 
-    module _ (some : length words ≡ 0 → ⊥) where
-      pub words-part : (length words % 17 ≡ 0 → ⊥) → Declined (Malformed 0) ≡ readWords words room
-      unfolding readWords
-      words-part e = rw (ne-eqb (length words) 0 some, ne-eqb (length words % 17) 0 e)
+  module _ (some : length words ≡ 0 → ⊥) where
+    pub words-part : (length words % 17 ≡ 0 → ⊥) → Faulty (Malformed 0) ≡ judgeWords words
+    unfolding judgeWords
+    words-part e = rw (ne-eqb (length words) 0 some, ne-eqb (length words % 17) 0 e)
 
-      module _ (whole : length words % 17 ≡ 0) where
-        pub words-many : 300 < length words / 17 → Declined (TooMany 0) ≡ readWords words room
-        unfolding readWords
-        words-many h = rw (ne-eqb (length words) 0 some, eq-eqb (length words % 17) 0 whole, lt-ltb 300 (length words / 17) h)
+    module _ (whole : length words % 17 ≡ 0) where
+      pub words-many : 300 < length words / 17 → Faulty (TooMany 0) ≡ judgeWords words
+      unfolding judgeWords
+      words-many h = rw (ne-eqb (length words) 0 some, eq-eqb (length words % 17) 0 whole, lt-ltb 300 (length words / 17) h)
 
-        pub words-read : length words / 17 ≤ 300 → readBatches words room ≡ readWords words room
-        unfolding readWords
-        words-read h = rw (ne-eqb (length words) 0 some, eq-eqb (length words % 17) 0 whole, le-ltb 300 (length words / 17) h)
+      pub words-few : length words / 17 ≤ 300 → judgeBatches words ≡ judgeWords words
+      unfolding judgeWords
+      words-few h = rw (ne-eqb (length words) 0 some, eq-eqb (length words % 17) 0 whole, le-ltb 300 (length words / 17) h)
 
--- ---- a listing
+-- ---- words that can be read
 
-module _ (s : List ℕ) (room : ℕ) where
-  pub listing-read : (p b : ℕ) → listingOf s ≡ listing.WellFormed p b → readBatches (wordsOf s) room ≡ readListing s room
-  unfolding readListing
-  listing-read p b e = rw e
+faulty-sound : {why : Fault} → Faulty why ≡ Sound → ⊥
+faulty-sound e = let z : _≡_ {A = ℕ} 0 1 = cc in omega arith
 
-  pub listing-declined : (why : listing-fault.Fault) → listingOf s ≡ listing.Declined why → Declined (faultOf why) ≡ readListing s room
-  unfolding readListing
-  listing-declined why e = rw e
+batches-synced : (words : List ℕ) → judgeBatches words ≡ Sound → length words / 17 ≤ firstUnsynced words
+unfolding judgeBatches
+batches-synced words = go (ltb (firstUnsynced words) (length words / 17)) refl
+  where
+    go : (b : Bool) → ltb (firstUnsynced words) (length words / 17) ≡ b → cond b (Faulty (Unsynced (firstUnsynced words + 1))) Sound ≡ Sound
+        → length words / 17 ≤ firstUnsynced words
+    go true e s = absurd (faulty-sound s)
+    go false e s = ltb-false (firstUnsynced words) (length words / 17) e
+
+words-readable : (words : List ℕ) → judgeWords words ≡ Sound → Readable words
+unfolding judgeWords
+words-readable words = go (eqb (length words) 0) (eqb (length words % 17) 0) refl (ltb 300 (length words / 17)) refl
+  where
+    go : (a b : Bool) → eqb (length words % 17) 0 ≡ b → (c : Bool) → ltb 300 (length words / 17) ≡ c
+        → cond (a || not b) (Faulty (Malformed 0)) (cond c (Faulty (TooMany 0)) (judgeBatches words)) ≡ Sound → Readable words
+    go true b e c f s = absurd (faulty-sound s)
+    go false false e c f s = absurd (faulty-sound s)
+    go false true e true f s = absurd (faulty-sound s)
+    go false true e false f s = record {
+      few = omega (arith, eqb-true (length words % 17) 0 e, ltb-false 300 (length words / 17) f);
+      synced = batches-synced words s;
+    }
+
+listing-readable : (s : List ℕ) → judgeListing s ≡ Sound → Readable (wordsOf s)
+unfolding judgeListing
+listing-readable s = go (listingOf s) refl
+  where
+    go : (l : Listing) → listingOf s ≡ l → judgeDecoded l (wordsOf s) ≡ Sound → Readable (wordsOf s)
+    go (listing.WellFormed p b) e f =
+        let there = formed s p b e in
+        record { few = omega (arith, there .count, there .limits .few); synced = batches-synced (wordsOf s) f }
+    go (listing.Declined why) e f = absurd (faulty-sound f)
+
+pub readable : AllReadable
+readable = record { of-words = words-readable; of-listing = listing-readable }

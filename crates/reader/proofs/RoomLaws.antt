@@ -1,31 +1,30 @@
 -- How long the lines of what is heard can be: ten bytes a slot. Assumes nothing.
 use mathlib.Core.Path.{_≡_, refl, ap}
-use mathlib.Core.Bool.{Bool, true, false, not, cond, _||_}
+use mathlib.Core.Bool.{Bool, true, false, cond}
 use mathlib.Core.List.{List, [], _∷_}
 use mathlib.Core.Option.{Option, none, some}
-use Prim.Native.Nat.{ℕ, zero, suc, _+_, _*_, _/_, _%_, _≤_}
+use Prim.Native.Nat.{ℕ, zero, suc, _+_, _*_, _/_, _≤_}
 use native.Mathlib.Omega.{arith}
 use lib.ListN.{length, length-append}
-use lib.Dec.{eqb, ltb}
-use borrow.Author.Tests.{ltb-false, le-ltb}
+use lib.Dec.{ltb}
+use borrow.Author.Tests.{le-ltb}
 use Rattle.codeword.specs.Nearest.{nearest}
 use Rattle.job.specs.Print.{ending}
-use Rattle.listing.specs.Listing.{listingOf}
 use Rattle.listing.specs.Words.{wordsOf}
-use Rattle.listing.specs.declared.Fault.the-variants as listing-fault
-use Rattle.listing.specs.declared.Listing.{Listing}
-use Rattle.listing.specs.declared.Listing.the-variants as listing
-use Rattle.listing.proofs.Indexed.{formed}
 use Rattle.reader.specs.Meaning.{meaning}
 use Rattle.reader.specs.Reading.{Hearing, State, Heard, closedAs, close, take, hear, readAt, slotWord, heardIn}
 use Rattle.reader.specs.Lines.{kindHeard, lineHeard, linesHeard}
-use Rattle.reader.specs.Answers.{firstUnsynced, printedInto, readBatches, readWords, readFrom, readListing, numberOf}
+use Rattle.reader.specs.Answers.{judgeWords, judgeListing, printedInto, answered, readWords, readListing, numberOf}
+use Rattle.reader.specs.Readable.{Readable}
 use Rattle.reader.specs.Enough.{Enough}
 use Rattle.reader.specs.declared.Changes.{Changes}
-use Rattle.reader.specs.declared.Fault.the-variants.{Malformed, TooMany, Unsynced, NoRoom}
-use Rattle.reader.specs.declared.Reading.the-variants.{Read, Declined}
+use Rattle.reader.specs.declared.Fault.the-variants.{Malformed, TooMany, Unsynced}
+use Rattle.reader.specs.declared.Reading.the-variants.{Read, NoRoom}
+use Rattle.reader.specs.declared.Verdict.{Verdict}
+use Rattle.reader.specs.declared.Verdict.the-variants.{Sound, Faulty}
 use Rattle.reader.specs.declared.Meaning.{Meaning}
 use Rattle.reader.specs.declared.Meaning.the-variants.{Lost, Idle, Address, Message}
+use Rattle.reader.proofs.AnswerLaws.{readable}
 use Rattle.reader.proofs.Blocks.{lines-more}
 use Rattle.reader.proofs.PageLaws.{line-short}
 
@@ -78,79 +77,49 @@ lines-short words =
 
 -- ---- number 10
 
-fits : (words : List ℕ) (room : ℕ) → length words / 17 ≤ 300 → 48000 ≤ room → numberOf (printedInto (heardIn words) room) ≡ 0
-fits words room few h = rw (le-ltb room (length (linesHeard (heardIn words .pages))) (omega (arith, lines-short words)))
+module _ (words : List ℕ) (room : ℕ) (h : 48000 ≤ room) where
+  abbrev lines : ℕ
+  lines = length (linesHeard (heardIn words .pages))
 
-batches-fit : (words : List ℕ) (room : ℕ) → length words / 17 ≤ 300 → 48000 ≤ room → numberOf (readBatches words room) ≡ 10 → ⊥
-unfolding readBatches
-batches-fit words room few h = go (ltb (firstUnsynced words) (length words / 17))
-  where
-    go : (b : Bool) → numberOf (cond b (Declined (Unsynced (firstUnsynced words + 1))) (printedInto (heardIn words) room)) ≡ 10 → ⊥
-    go true e = omega arith
-    go false e = omega (arith, fits words room few h)
+  answer-fits : (v : Verdict) → (v ≡ Sound → Readable words) → numberOf (answered v (heardIn words) room) ≡ 10 → ⊥
+  answer-fits (Faulty (Malformed line)) r e = omega arith
+  answer-fits (Faulty (TooMany line)) r e = omega arith
+  answer-fits (Faulty (Unsynced batch)) r e = omega arith
+  answer-fits Sound r e =
+      let zero : numberOf (printedInto (heardIn words) room) ≡ 0 = rw (le-ltb room lines (omega (arith, lines-short words, r refl .few))) in
+      omega arith
 
-words-fit : (words : List ℕ) (room : ℕ) → 48000 ≤ room → numberOf (readWords words room) ≡ 10 → ⊥
-unfolding readWords
-words-fit words room h = go (eqb (length words) 0 || not (eqb (length words % 17) 0)) (ltb 300 (length words / 17)) refl
-  where
-    go : (a b : Bool) → ltb 300 (length words / 17) ≡ b → numberOf (cond a (Declined (Malformed 0)) (cond b (Declined (TooMany 0)) (readBatches words room))) ≡ 10 → ⊥
-    go true b f e = omega arith
-    go false true f e = omega arith
-    go false false f e = batches-fit words room (ltb-false 300 (length words / 17) f) h e
-
-listing-fits : (s : List ℕ) (room : ℕ) → 48000 ≤ room → numberOf (readListing s room) ≡ 10 → ⊥
-unfolding readListing
-listing-fits s room h = go (listingOf s) refl
-  where
-    go : (l : Listing) → listingOf s ≡ l → numberOf (readFrom l (wordsOf s) room) ≡ 10 → ⊥
-    go (listing.WellFormed p b) f e = let w = formed s p b f in batches-fit (wordsOf s) room (omega (arith, w .count, w .limits .few)) h e
-    go (listing.Declined (listing-fault.Malformed line)) f e = omega arith
-    go (listing.Declined (listing-fault.TooMany line)) f e = omega arith
+  -- more room changes nothing
+  answer-same : (v : Verdict) → (v ≡ Sound → Readable words) → answered v (heardIn words) room ≡ answered v (heardIn words) 48000
+  answer-same (Faulty why) r = refl
+  answer-same Sound r =
+      let few = r refl .few in
+      rw (le-ltb room lines (omega (arith, lines-short words)), le-ltb 48000 lines (omega (arith, lines-short words)))
 
 pub enough : Enough
-enough =
-    record { of-words = λ words room h. words-fit words room (omega arith); of-listing = λ s room h. listing-fits s room (omega arith) }
-
--- ---- more room changes nothing
-
-batches-same : (words : List ℕ) (room : ℕ) → length words / 17 ≤ 300 → 48000 ≤ room → readBatches words room ≡ readBatches words 48000
-unfolding readBatches
-batches-same words room few h =
-    let lines = length (linesHeard (heardIn words .pages)) in
-    rw (le-ltb room lines (omega (arith, lines-short words)), le-ltb 48000 lines (omega (arith, lines-short words)))
+unfolding readWords readListing
+enough = record {
+  of-words = λ words room h. answer-fits words room h (judgeWords words) (readable .of-words words);
+  of-listing = λ s room h. answer-fits (wordsOf s) room h (judgeListing s) (readable .of-listing s);
+}
 
 pub listing-same : (s : List ℕ) (room : ℕ) → 48000 ≤ room → readListing s room ≡ readListing s 48000
 unfolding readListing
-listing-same s room h = go (listingOf s) refl
-  where
-    go : (l : Listing) → listingOf s ≡ l → readFrom l (wordsOf s) room ≡ readFrom l (wordsOf s) 48000
-    go (listing.WellFormed p b) f = let w = formed s p b f in batches-same (wordsOf s) room (omega (arith, w .count, w .limits .few)) h
-    go (listing.Declined why) f = refl
+listing-same s room h = answer-same (wordsOf s) room h (judgeListing s) (readable .of-listing s)
 
 -- ---- how many bytes are written
 
-module _ (words : List ℕ) (room : ℕ) {pages lost orphans : ℕ} {changed : Changes} {m : ℕ} where
-  into-size : (h : Heard) → Read pages lost orphans changed m ≡ printedInto h room → m ≡ length (linesHeard (h .pages))
-  into-size h e = go (ltb room (length (linesHeard (h .pages)))) e
+module _ (h : Heard) (room : ℕ) {pages lost orphans : ℕ} {changed : Changes} {m : ℕ} where
+  answer-size : (v : Verdict) → Read pages lost orphans changed m ≡ answered v h room → m ≡ length (linesHeard (h .pages))
+  answer-size (Faulty why) e = let z : _≡_ {A = ℕ} 0 1 = cc in absurd (omega arith)
+  answer-size Sound e = go (ltb room (length (linesHeard (h .pages)))) e
     where
-      go : (b : Bool) → Read pages lost orphans changed m ≡ cond b (Declined NoRoom) (Read (length (h .pages)) (h .lost) (h .orphans) (h .changed) (length (linesHeard (h .pages)))) → m ≡ length (linesHeard (h .pages))
+      go : (b : Bool) → Read pages lost orphans changed m ≡ cond b NoRoom (Read (length (h .pages)) (h .lost) (h .orphans) (h .changed) (length (linesHeard (h .pages)))) → m ≡ length (linesHeard (h .pages))
       go true f = let z : _≡_ {A = ℕ} 0 1 = cc in absurd (omega arith)
       go false f = cc
-
-  batches-size : Read pages lost orphans changed m ≡ readBatches words room → m ≡ length (linesHeard (heardIn words .pages))
-  unfolding readBatches
-  batches-size e = go (ltb (firstUnsynced words) (length words / 17)) e
-    where
-      go : (b : Bool) → Read pages lost orphans changed m ≡ cond b (Declined (Unsynced (firstUnsynced words + 1))) (printedInto (heardIn words) room) → m ≡ length (linesHeard (heardIn words .pages))
-      go true f = let z : _≡_ {A = ℕ} 0 1 = cc in absurd (omega arith)
-      go false f = into-size (heardIn words) f
-
-  from-size : (l : Listing) → Read pages lost orphans changed m ≡ readFrom l words room → m ≡ length (linesHeard (heardIn words .pages))
-  from-size (listing.WellFormed p b) e = batches-size e
-  from-size (listing.Declined why) e = let z : _≡_ {A = ℕ} 0 1 = cc in absurd (omega arith)
 
 -- the lines of a reading that isn't declined have as many bytes as it answers
 pub bytes-read : (s : List ℕ) (room : ℕ) {pages lost orphans : ℕ} {changed : Changes} {m : ℕ} → Read pages lost orphans changed m ≡ readListing s room
     → m ≡ length (linesHeard (heardIn (wordsOf s) .pages))
 unfolding readListing
-bytes-read s room e = from-size (wordsOf s) room (listingOf s) e
+bytes-read s room e = answer-size (heardIn (wordsOf s)) room (judgeListing s) e

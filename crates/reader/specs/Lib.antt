@@ -3,6 +3,7 @@ pub mod Changed
 pub mod Reading
 pub mod Lines
 pub mod Answers
+pub mod Readable
 pub mod Enough
 pub mod Symbols
 pub mod Progress

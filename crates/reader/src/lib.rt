@@ -11,9 +11,11 @@ ghost use Rattle.reader.specs.Meaning.{codewordMeaning, meaning, isSync}
 ghost use Rattle.reader.specs.Changed.{unlessLost, slotChanged, slotsChanged, syncsChanged};
 ghost use Rattle.reader.specs.Reading.{closedAs, slotWord, syncWord, heardIn};
 ghost use Rattle.reader.specs.Lines.{kindHeard, digitsHeard, lineHeard};
-ghost use Rattle.reader.specs.Answers.{firstUnsynced, printedInto, linesOf, readBatches, readWords, faultOf, readListing, linesRead, numberOf, placeOf};
+ghost use Rattle.reader.specs.Answers.{firstUnsynced, judgeBatches, judgeWords, faultOf, judgeDecoded, printedInto, answered, linesOf, readWords, readListing, linesRead, numberOf, placeOf};
+ghost use Rattle.reader.specs.Readable.{Readable};
 ghost use Rattle.reader.specs.Symbols.{said, Tells, stateBy, heardBy, pageIn, Printable};
 ghost use Rattle.reader.specs.Progress.{Buffers, Room, Messages, Idles, Quiet, withMessages, Kept, KeptAll, closed};
+ghost use Rattle.reader.specs.declared.Verdict.the-variants.{Sound};
 use codeword::Codeword;
 use codeword::Correction;
 use codeword::Engine;
@@ -32,7 +34,7 @@ pub enum Meaning {
     Message(u32),
 }
 
-// Why nothing is read.
+// Why words or a listing can't be read.
 pub enum Fault {
     // Number 21, with the line; 0 for words.
     Malformed(usize),
@@ -40,8 +42,13 @@ pub enum Fault {
     TooMany(usize),
     // Number 22: the batch, from 1, whose first word does not correct to sync.
     Unsynced(usize),
-    // Number 10: the lent slice is shorter than the lines.
-    NoRoom,
+}
+
+// Whether words can be read, before their pages are looked at.
+pub enum Verdict {
+    // At most 300 whole batches, which all begin with sync.
+    Sound,
+    Faulty(Fault),
 }
 
 // How many bits are changed in the slots' words, of which lost ones count 0, and in the sync words.
@@ -62,6 +69,8 @@ pub enum Reading {
         bytes: usize,
     },
     Declined(Fault),
+    // Number 10: the lent slice is shorter than the lines.
+    NoRoom,
 }
 
 // What a received word is read as: its symbol, and how many bits are changed, none where it is lost.
@@ -449,7 +458,7 @@ fn read_into(
     let p = hear_all(symbols, digits, lines);
     let n = p.bytes;
     if out.len() < n {
-        return Reading::Declined(Fault::NoRoom);
+        return Reading::NoRoom;
     }
     bytes::copy(&lines[..n], out);
     Reading::Read {
@@ -506,41 +515,56 @@ fn read_many(engine: Engine, words: &[u32], out: &mut [u8]) -> Reading
     read_synced(engine, words, &mut symbols, &mut digits, &mut lines, out)
 }
 
-// Reads whole batches, 300 at most.
-fn read_batches(engine: Engine, words: &[u32], out: &mut [u8]) -> Reading
-    requires { ⌜ length (now words) ≤ 5100 ⌝ }
-    ensures { λ r. ⌜ r ≡ readBatches (now (words .entry)) (length (now (out .entry))) ⌝ }
+// Reads words that can be read.
+fn read_sound(engine: Engine, words: &[u32], out: &mut [u8]) -> Reading
+    requires { ⌜ Readable (now words) ⌝ }
+    ensures { λ r. ⌜ r ≡ printedInto (heardIn (now (words .entry))) (length (now (out .entry))) ⌝ }
     ensures { λ r. ⌜ now (out .exit) ≡ over (now (out .entry)) (linesRead r (now (words .entry))) ⌝ }
 {
-    let batches = words.len() / 17;
-    let first = first_unsynced(words);
-    if first < batches {
-        let batch = first + 1;
-        return Reading::Declined(Fault::Unsynced(batch));
-    }
-    if batches <= 16 {
+    if words.len() / 17 <= 16 {
         return read_few(engine, words, out);
     }
     read_many(engine, words, out)
 }
 
-// Reads a slice of words, batches only: the lines of the pages go to the front of the bytes, and what stands behind them keeps its value.
-// The engine corrects the slots' words; sync is told, with either, by the bits that differ.
-pub fn read_words(engine: Engine, words: &[u32], out: &mut [u8]) -> Reading
-    ensures { λ r. ⌜ r ≡ readWords (now (words .entry)) (length (now (out .entry))) ⌝ }
+// Reads words by their verdict.
+fn read_judged(engine: Engine, v: Verdict, words: &[u32], out: &mut [u8]) -> Reading
+    requires { ⌜ (v ≡ Sound → Readable (now words)) ⌝ }
+    ensures { λ r. ⌜ r ≡ answered v (heardIn (now (words .entry))) (length (now (out .entry))) ⌝ }
     ensures { λ r. ⌜ now (out .exit) ≡ over (now (out .entry)) (linesRead r (now (words .entry))) ⌝ }
+{
+    match v {
+        Verdict::Sound => read_sound(engine, words, out),
+        Verdict::Faulty(why) => Reading::Declined(why),
+    }
+}
+
+// Whether whole batches can be read: number 22 where one does not begin with sync.
+fn judge_batches(words: &[u32]) -> Verdict
+    ensures { λ r. ⌜ r ≡ judgeBatches (now (words .entry)) ⌝ }
+{
+    let first = first_unsynced(words);
+    if first < words.len() / 17 {
+        return Verdict::Faulty(Fault::Unsynced(first + 1));
+    }
+    Verdict::Sound
+}
+
+// Whether a slice of words can be read: numbers 21, 23, 22.
+pub fn judge_words(words: &[u32]) -> Verdict
+    ensures { λ r. ⌜ r ≡ judgeWords (now (words .entry)) ⌝ }
 {
     let n = words.len();
     if n == 0 {
-        return Reading::Declined(Fault::Malformed(0));
+        return Verdict::Faulty(Fault::Malformed(0));
     }
     if n % 17 != 0 {
-        return Reading::Declined(Fault::Malformed(0));
+        return Verdict::Faulty(Fault::Malformed(0));
     }
     if 300 < n / 17 {
-        return Reading::Declined(Fault::TooMany(0));
+        return Verdict::Faulty(Fault::TooMany(0));
     }
-    read_batches(engine, words, out)
+    judge_batches(words)
 }
 
 // A listing's fault as this crate's.
@@ -553,6 +577,29 @@ fn fault_of(why: listing::Fault) -> Fault
     }
 }
 
+// Whether what `listing::decode` answers can be read: numbers 21 or 23, then 22 of its batches, which have these words.
+pub fn judge_decoded(l: listing::Listing, words: &[u32]) -> Verdict
+    ensures { λ r. ⌜ r ≡ judgeDecoded l (now (words .entry)) ⌝ }
+{
+    match l {
+        listing::Listing::WellFormed {
+            preamble: _,
+            batches: _,
+        } => judge_batches(words),
+        listing::Listing::Declined(why) => Verdict::Faulty(fault_of(why)),
+    }
+}
+
+// Reads a slice of words, batches only: the lines of the pages go to the front of the bytes, and what stands behind them keeps its value.
+// The engine corrects the slots' words; sync is told, with either, by the bits that differ.
+pub fn read_words(engine: Engine, words: &[u32], out: &mut [u8]) -> Reading
+    ensures { λ r. ⌜ r ≡ readWords (now (words .entry)) (length (now (out .entry))) ⌝ }
+    ensures { λ r. ⌜ now (out .exit) ≡ over (now (out .entry)) (linesRead r (now (words .entry))) ⌝ }
+{
+    let v = judge_words(words);
+    read_judged(engine, v, words, out)
+}
+
 // Reads a listing as `read_words` reads its words.
 pub fn read_listing(engine: Engine, listing: &[u8], out: &mut [u8]) -> Reading
     ensures { λ r. ⌜ r ≡ readListing (now (listing .entry)) (length (now (out .entry))) ⌝ }
@@ -561,16 +608,9 @@ pub fn read_listing(engine: Engine, listing: &[u8], out: &mut [u8]) -> Reading
     let decoded = listing::decode(listing);
     let words = decoded.words;
     let l = decoded.listing;
-    match l {
-        listing::Listing::WellFormed {
-            preamble: _,
-            batches,
-        } => {
-            let n = 17 * batches;
-            read_batches(engine, &words[..n], out)
-        }
-        listing::Listing::Declined(why) => Reading::Declined(fault_of(why)),
-    }
+    let n = 17 * listing::batch_count(l);
+    let v = judge_decoded(l, &words[..n]);
+    read_judged(engine, v, &words[..n], out)
 }
 
 // The number of a reading in the table; 0 where it is read.
@@ -589,8 +629,8 @@ pub fn number(r: Reading) -> u32
             Fault::Malformed(_) => 21,
             Fault::TooMany(_) => 23,
             Fault::Unsynced(_) => 22,
-            Fault::NoRoom => 10,
         },
+        Reading::NoRoom => 10,
     }
 }
 
@@ -610,7 +650,7 @@ pub fn place(r: Reading) -> usize
             Fault::Malformed(line) => line,
             Fault::TooMany(line) => line,
             Fault::Unsynced(batch) => batch,
-            Fault::NoRoom => 0,
         },
+        Reading::NoRoom => 0,
     }
 }

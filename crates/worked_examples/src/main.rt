@@ -302,6 +302,13 @@ fn print_bars(bytes: &[u8], n: usize) {
     }
 }
 
+fn print_refused(answer: Reading) {
+    print(b" refused ");
+    print_number(reader::number(answer) as u64);
+    print(b" place ");
+    print_number(reader::place(answer) as u64);
+}
+
 fn print_reading(answer: Reading, lines: &[u8]) {
     match answer {
         Reading::Read {
@@ -324,12 +331,8 @@ fn print_reading(answer: Reading, lines: &[u8]) {
             print(b" ");
             print_bars(lines, bytes);
         }
-        Reading::Declined(_) => {
-            print(b" refused ");
-            print_number(reader::number(answer) as u64);
-            print(b" place ");
-            print_number(reader::place(answer) as u64);
-        }
+        Reading::Declined(_) => print_refused(answer),
+        Reading::NoRoom => print_refused(answer),
     }
 }
 

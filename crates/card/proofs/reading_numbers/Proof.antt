@@ -1,5 +1,5 @@
 -- `card::reading_numbers` meets its contract. Assumes nothing.
-use mathlib.Core.Path.{_≡_, sym, ap}
+use mathlib.Core.Path.{_≡_, sym, ap, _∙_}
 use Prim.Native.Nat.{ℕ}
 use Rattle.reader.specs.Answers.{bytesRead, pagesRead, lostRead, orphansRead, changedRead, placeOf, numberOf}
 use Rattle.reader.specs.declared.Reading.{Reading}
@@ -35,6 +35,15 @@ enum-known-r c = search needs
 enum-told : tie.Need-enum-told
 enum-told c = search needs
 
+unread-requires : tie.Need-unread-requires
+unread-requires c κs = search needs
+
+enum-told-2 : tie.Need-enum-told-2
+enum-told-2 c = search needs
+
+unread-requires-2 : tie.Need-unread-requires-2
+unread-requires-2 c κs = search needs
+
 returns : tie.Need-returns
 returns c =
     let n = c .before .before .before in
@@ -42,9 +51,25 @@ returns c =
 
 returns-2 : tie.Need-returns-2
 returns-2 c =
-    let n = c .before .before in
-    made (c .enum-told .given .1) (n .before .place .ensures) (n .number .ensures)
+    let n = c .before .before .before in
+    c .unread .ensures ∙ made (c .before .enum-told .given .1) (n .before .place .ensures) (n .number .ensures)
+
+returns-3 : tie.Need-returns-3
+returns-3 c =
+    let n = c .before .before .before in
+    c .unread2 .ensures ∙ made (c .before .enum-told2 .given .1) (n .before .place .ensures) (n .number .ensures)
 
 pub reading-numbers-spec : {M : Type 1} → statement M
 reading-numbers-spec =
-    tie.close (tie.spec place-requires number-requires enum-known-r enum-told returns returns-2)
+    tie.close
+    (tie.spec
+    place-requires
+    number-requires
+    enum-known-r
+    enum-told
+    unread-requires
+    enum-told-2
+    unread-requires-2
+    returns
+    returns-2
+    returns-3)

@@ -7,7 +7,7 @@ use Rattle.listing.specs.Words.{wordsOf}
 use Rattle.reader.specs.Answers.{linesRead, numberOf, placeOf}
 use Rattle.reader.specs.declared.Reading.{Reading}
 use Rattle.program.specs.Prints.{readPrints}
-use Rattle.program.proofs.PrintsLaws.{counted, line-as, read-long, read-whole, read-declined}
+use Rattle.program.proofs.PrintsLaws.{counted, line-as, read-long, read-whole, read-declined, read-full}
 use Rattle.program.proofs.read.Statement.{statement}
 use Rattle.program.proofs.read.Tie as tie
 
@@ -48,6 +48,12 @@ enum-told c = search needs
 write-refusal-requires-2 : tie.Need-write-refusal-requires-2
 write-refusal-requires-2 c κs = search needs
 
+enum-told-2 : tie.Need-enum-told-2
+enum-told-2 c = search needs
+
+write-refusal-requires-3 : tie.Need-write-refusal-requires-3
+write-refusal-requires-3 c κs = search needs
+
 returns-2 : tie.Need-returns-2
 returns-2 c =
     let v = c .before .before .before .before .before in
@@ -65,6 +71,15 @@ returns-3 c =
     (read-declined (a .input .now) (a .out .now) (sym (v .before .before .before .is-long .ensures) ∙ v .before .before .if1 .left) _ _ (room v) (told ∙ v .read-listing .ensures .0)
     (line-as (a .out .now) _ _ _ (c .before .before .before .before .before .number .ensures ∙ ap numberOf (sym told)) (c .before .before .before .before .place .ensures ∙ ap placeOf (sym told)) refl (left v (sym told)) (c .write-refusal2 .ensures)))
 
+returns-4 : tie.Need-returns-4
+returns-4 c =
+    let v = c .before .before .before .before .before .before in
+    let a = c .before .before .before .before .before .before .before .before .before .before .before .args in
+    let told = sym (c .before .before .enum-told2 .given .1) in
+    counted (a .out .now) (readPrints (a .input .now))
+    (read-full (a .input .now) (a .out .now) (sym (v .before .before .before .is-long .ensures) ∙ v .before .before .if1 .left) _ (room v) (told ∙ v .read-listing .ensures .0)
+    (line-as (a .out .now) _ _ _ (c .before .before .before .before .before .number .ensures ∙ ap numberOf (sym told)) (c .before .before .before .before .place .ensures ∙ ap placeOf (sym told)) refl (left v (sym told)) (c .write-refusal3 .ensures)))
+
 pub read-spec : {M : Type 1} → statement M
 read-spec =
     tie.close
@@ -78,5 +93,8 @@ read-spec =
     enum-known-answer
     enum-told
     write-refusal-requires-2
+    enum-told-2
+    write-refusal-requires-3
     returns-2
-    returns-3)
+    returns-3
+    returns-4)

@@ -1,115 +1,106 @@
--- `reader::read_listing` meets its contract. Assumes nothing.
-use mathlib.Core.Path.{_≡_, refl, sym, ap, _∙_}
+-- `reader::read_listing` meets its contract: what is read are the words at the front of what is decoded. Assumes nothing.
+use mathlib.Core.Path.{_≡_, sym, ap, ap₂, _∙_}
 use mathlib.Core.List.{List}
-use Prim.Native.Nat.{ℕ, _*_, _≤_}
+use Prim.Native.Nat.{ℕ, _*_}
 use native.Mathlib.Omega.{arith}
 use lib.ListN.{length, take}
 use lib.Seq.{length-take-le}
 use denote.Ref.{now}
 use borrow.Author.Needs.{needs}
 use Rattle.base.specs.Lists.{over}
-use Rattle.listing.specs.Listing.{listingOf}
 use Rattle.listing.specs.Words.{wordsOf}
-use Rattle.listing.specs.Formed.{Formed}
-use Rattle.listing.specs.Answers.{decodedOf}
+use Rattle.listing.specs.Formed.{Front}
 use Rattle.listing.specs.declared.Decoded.{Decoded}
-use Rattle.listing.specs.declared.Listing.the-variants.{WellFormed}
-use Rattle.listing.proofs.Indexed.{formed}
-use Rattle.reader.specs.Answers.{readBatches, linesRead}
-use Rattle.reader.specs.declared.Reading.the-variants.{Declined}
-use Rattle.reader.proofs.AnswerLaws.{listing-read, listing-declined}
+use Rattle.listing.proofs.Settled.{front}
+use Rattle.reader.specs.Reading.{heardIn}
+use Rattle.reader.specs.Answers.{judgeDecoded, judgeListing, answered, readListing, linesRead}
+use Rattle.reader.specs.declared.Verdict.{Verdict}
+use Rattle.reader.proofs.AnswerLaws.{readable}
 use Rattle.reader.proofs.read_listing.Statement.{statement}
 use Rattle.reader.proofs.read_listing.Tie as tie
 
--- a listing that is well formed
-module _ (c : tie.After-l) where
-  abbrev start : tie.Start
-  start = c .before .before .before .before .before .before
-
+module _ (c : tie.After-batch-count) where
   abbrev text : List ℕ
-  text = now (start .args .listing)
+  text = now (c .before .before .before .before .before .args .listing)
 
-  abbrev p : ℕ
-  p = c .l .given .0 .0
-
-  abbrev b : ℕ
-  b = c .l .given .0 .1 .0
-
-  -- what is decoded
   abbrev decoded : Decoded
-  decoded = c .before .before .before .decode .result
+  decoded = c .before .before .decode .result
 
-  same : decoded ≡ decodedOf text
-  same = c .before .before .before .decode .ensures
+  abbrev n : ℕ
+  n = c .batch-count .result
 
-  form : listingOf text ≡ WellFormed p b
-  form = sym (ap (λ (d : Decoded). d .listing) same) ∙ c .l .given .1
+  there : Front text decoded n
+  there = front text (c .before .before .decode .ensures) (c .batch-count .ensures)
 
-  there : Formed text p b
-  there = formed text p b form
+  part-length : 17 * n ≡ length (take (17 * n) (decoded .words))
+  part-length = sym (length-take-le (17 * n) (decoded .words) (there .inside))
 
-  inside : 17 * b ≤ length (decoded .words)
-  inside = omega (arith, there .inside, ap (λ (d : Decoded). length (d .words)) same)
-
-  words : take (17 * b) (decoded .words) ≡ wordsOf text
-  words = ap (λ (d : Decoded). take (17 * b) (d .words)) same ∙ there .front
+-- the verdict is the listing's
+verdict : (c : tie.After-judge-decoded) → c .judge-decoded .result ≡ judgeListing (text (c .before .before))
+unfolding judgeListing
+verdict c =
+    let b = c .before .before in
+    c .judge-decoded .ensures ∙ ap₂ judgeDecoded (ap (λ (d : Decoded). d .listing) (b .before .before .decode .ensures)) (there b .words)
 
 decode-requires : tie.Need-decode-requires
 decode-requires c κs = search needs
 
-enum-known-l : tie.Need-enum-known-l
-enum-known-l c = search needs
+batch-count-requires : tie.Need-batch-count-requires
+batch-count-requires c κs = search needs
 
 mul-n : tie.Need-mul-n
-mul-n c = omega (arith, there (c .before) .limits .few)
+mul-n c = omega (arith, there c .few)
 
 array-share-prefix-words : tie.Need-array-share-prefix-words
-array-share-prefix-words c = inside (c .before)
+array-share-prefix-words c = there c .inside
 
-slice-aggregate-read-batches : tie.Need-slice-aggregate-read-batches
-slice-aggregate-read-batches c = let at = c .before .before in sym (length-take-le (17 * b at) (decoded at .words) (inside at))
+slice-aggregate-judge-decoded : tie.Need-slice-aggregate-judge-decoded
+slice-aggregate-judge-decoded c = part-length (c .before)
 
-read-batches-requires : tie.Need-read-batches-requires
-read-batches-requires c κs = let at = c .before .before .before in omega (arith, ap length (words at), there at .count, there at .limits .few)
+judge-decoded-requires : tie.Need-judge-decoded-requires
+judge-decoded-requires c κs = search needs
 
-enum-known-l-2 : tie.Need-enum-known-l-2
-enum-known-l-2 c = search needs
+array-share-prefix-words-2 : tie.Need-array-share-prefix-words-2
+array-share-prefix-words-2 c = there (c .before .before) .inside
 
-fault-of-requires : tie.Need-fault-of-requires
-fault-of-requires c κs = search needs
+slice-aggregate-read-judged : tie.Need-slice-aggregate-read-judged
+slice-aggregate-read-judged c = part-length (c .before .before .before)
+
+read-judged-requires : tie.Need-read-judged-requires
+read-judged-requires c κs e =
+    let j = c .before .before in
+    let b = j .before .before in
+    rw (there b .words) (readable .of-listing (text b) (sym (verdict j) ∙ e))
 
 same-length : tie.Need-same-length
 same-length c = search needs
 
+judged : (s words : List ℕ) (room : ℕ) {v : Verdict} → words ≡ wordsOf s → v ≡ judgeListing s → answered v (heardIn words) room ≡ readListing s room
+unfolding readListing
+judged s words room w e = ap₂ (λ (v : Verdict) (ws : List ℕ). answered v (heardIn ws) room) e w
+
 returns : tie.Need-returns
 returns c =
-    let r = c .before .before in
-    let at = r .before .before .before .before in
-    let out = now (start at .args .out) in (
-      r .read-batches .ensures .0 ∙ ap (λ (w : List ℕ). readBatches w (length out)) (words at) ∙ listing-read (text at) (length out) (p at) (b at) (form at),
-      r .read-batches .ensures .1 ∙ ap (λ (w : List ℕ). over out (linesRead (r .read-batches .result) w)) (words at),
+    let j = c .before .before .before .before .before in
+    let b = j .before .before in
+    let out = now (b .before .before .before .before .before .args .out) in
+    let r = c .before .before .read-judged in (
+      r .ensures .0 ∙ judged (text b) (take (17 * n b) (decoded b .words)) (length out) (there b .words) (verdict j),
+      r .ensures .1 ∙ ap (λ (ws : List ℕ). over out (linesRead (r .result) ws)) (there b .words),
     )
-
-returns-2 : tie.Need-returns-2
-returns-2 c =
-    let at = c .before .before in
-    let a = at .before .before .before .before .before .before .args in
-    let same = at .before .before .before .decode .ensures in
-    let declined = listing-declined (now (a .listing)) (length (now (a .out))) _ (sym (ap (λ (d : Decoded). d .listing) same) ∙ at .l2 .given .1) in
-    (ap Declined (c .fault-of .ensures) ∙ declined, refl)
 
 pub read-listing-spec : {M : Type 1} → statement M
 read-listing-spec =
     tie.close
     (tie.spec
     decode-requires
-    enum-known-l
+    batch-count-requires
     mul-n
     array-share-prefix-words
-    slice-aggregate-read-batches
-    read-batches-requires
-    enum-known-l-2
-    fault-of-requires
+    slice-aggregate-judge-decoded
+    judge-decoded-requires
+    array-share-prefix-words-2
+    slice-aggregate-read-judged
+    read-judged-requires
     same-length
-    returns
-    returns-2)
+    returns)
