@@ -300,6 +300,14 @@ fn said(symbol: u32) -> Meaning
     Meaning::Address(symbol / 4 * 8, symbol % 4)
 }
 
+// What a received word says, once corrected by the engine.
+pub fn word_meaning(engine: Engine, word: u32) -> Meaning
+    ensures { λ r. ⌜ r ≡ meaning (nearest word) ⌝ }
+{
+    let r = read_word(engine, word);
+    said(r.symbol)
+}
+
 // Closes the open page, if any, before slot s: its line is printed behind the others.
 fn close(
     p: Progress,
