@@ -1,4 +1,5 @@
--- A heard page's kind, text and line: case by case, as the code goes, how long they are, and that a message word's symbol will do for its group.
+-- A heard page's kind, text and line: case by case, as the code goes, how long they are, that there is room for them or not, and that a
+-- message word's symbol will do for its group.
 -- Assumes nothing.
 use mathlib.Core.Path.{_≡_, refl, sym, ap, ap₂, _∙_}
 use mathlib.Core.Bool.{Bool, true, false, cond}
@@ -9,7 +10,7 @@ use lib.Dec.{eqb}
 use lib.Pow.{field, mod-mod-pow}
 use lib.ListN.{length, getD, take, drop, length-drop, length-map, List·getD-map}
 use lib.Seq.{length-take-le, take-length}
-use borrow.Author.Tests.{le-ltb}
+use borrow.Author.Tests.{le-ltb, le-leb, lt-leb}
 use Rattle.base.specs.Hex.{digitsOf, pairsOf}
 use Rattle.base.specs.Lists.{over, tab}
 use Rattle.base.proofs.HexLaws.{pairs-length}
@@ -27,8 +28,8 @@ use Rattle.job.specs.declared.Printing.{Printing}
 use Rattle.job.specs.declared.Printing.the-variants.{Printed, NoRoom}
 use Rattle.job.proofs.PrintLaws.{spaced-few, ending-few, printed-length}
 use Rattle.placement.specs.Placement.{frameOf}
-use Rattle.reader.specs.Reading.{closedAs}
-use Rattle.reader.specs.Lines.{kindHeard, digitsHeard, lineHeard}
+use Rattle.reader.specs.Reading.{Hearing, closedAs}
+use Rattle.reader.specs.Lines.{kindHeard, digitsHeard, lineHeard, heardPage, roomFor, printingHeard, digitsWritten, lineWritten, LinesShort, RoomEnough}
 use Rattle.reader.specs.Symbols.{groupsSaid, pageIn}
 
 -- ---- the kind
@@ -61,6 +62,50 @@ pub line-short : (identity kind f : ℕ) (gs : List ℕ) (cut : Bool) → length
 line-short identity kind f gs cut =
     let ds = digitsHeard f gs in
     omega (arith, printed-length identity kind ds cut, spaced-few ds, digits-short f gs)
+
+pub lines-short : LinesShort
+lines-short h =
+    omega (arith, line-short (h .identity) (kindHeard (h .function) (h .groups)) (h .function) (h .groups) (h .cut), ending-few (h .cut))
+
+-- ---- one page by itself
+
+pub room-enough : RoomEnough
+unfolding roomFor
+room-enough digits room h d r = rw (le-leb (10 * length (h .groups)) digits d, le-leb (11 * (length (h .groups) + 1)) room r)
+
+-- a line that there is room for is printed
+line-printed : (old line : List ℕ) {given out : List ℕ} {answer : Printing} → length line ≤ length old → given ≡ line
+    → answer ≡ printingOf (length old) given → out ≡ over old (take (bytesPrinted answer) given) → (answer ≡ Printed (length line)) × (out ≡ over old line)
+line-printed old line h e a o =
+    let printed : printingOf (length old) line ≡ Printed (length line) = rw (le-ltb (length old) (length line) h) in
+    let all = a ∙ ap (printingOf (length old)) e ∙ printed in
+    (all, o ∙ ap (over old) (ap₂ (λ (p : Printing) (l : List ℕ). take (bytesPrinted p) l) all e ∙ take-length line))
+
+module _ (old out : List ℕ) (h : Hearing) where
+  -- with too few digits or bytes nothing is written
+  pub few-digits : length old / 10 < length (h .groups) → roomFor (length old) (length out) h ≡ false
+  unfolding roomFor
+  few-digits l = rw (lt-leb (10 * length (h .groups)) (length old) (omega arith))
+
+  pub few-bytes : length (h .groups) ≤ length old / 10 → length out / 11 ≤ length (h .groups) → roomFor (length old) (length out) h ≡ false
+  unfolding roomFor
+  few-bytes d l =
+      rw (le-leb (10 * length (h .groups)) (length old) (omega arith), lt-leb (11 * (length (h .groups) + 1)) (length out) (omega arith))
+
+  pub nothing-heard : roomFor (length old) (length out) h ≡ false
+      → (NoRoom ≡ printingHeard (length old) (length out) h)
+      × ((old ≡ over old (digitsWritten (length old) (length out) h)) × (out ≡ over out (lineWritten (length old) (length out) h)))
+  nothing-heard e = rw e (refl, (refl, refl))
+
+  -- with enough of both the digits of its text are written and its line is printed
+  pub page-heard : {answer : Printing} {given digits bytes : List ℕ} → length (h .groups) ≤ length old / 10 → length (h .groups) < length out / 11
+      → given ≡ lineHeard h → digits ≡ over old (digitsHeard (h .function) (h .groups))
+      → answer ≡ printingOf (length out) given → bytes ≡ over out (take (bytesPrinted answer) given)
+      → (answer ≡ printingHeard (length old) (length out) h)
+      × ((digits ≡ over old (digitsWritten (length old) (length out) h)) × (bytes ≡ over out (lineWritten (length old) (length out) h)))
+  page-heard d r e w a o =
+      let there = line-printed out (lineHeard h) (omega (arith, lines-short h)) e a o in
+      rw (room-enough (length old) (length out) h (omega arith) (omega arith)) (there .0, (w, there .1))
 
 -- ---- a message word's symbol in the place of its group
 
@@ -115,32 +160,28 @@ module _ (symbols : List ℕ) (a s : ℕ) (cut : Bool) where
   abbrev line : List ℕ
   line = lineHeard (closedAs cut (pageIn symbols a s))
 
-  pub page-line : {kind : ℕ} {digits : List ℕ} → kind ≡ kindHeard (address % 4) words → digits ≡ digitsHeard (address % 4) words
-      → printed (address / 4 * 8 + frameOf a) kind digits cut ≡ line
-  page-line e d =
-      ap₂ (λ (k : ℕ) (ds : List ℕ). printed (address / 4 * 8 + frameOf a) k ds cut) (e ∙ sym (kind-said (address % 4) words)) (d ∙ sym (digits-said (address % 4) words))
+  -- the page of its symbols, which has the same line
+  abbrev heard : Hearing
+  heard = heardPage (address / 4 * 8 + frameOf a) address words cut
+
+  page-line : lineHeard heard ≡ line
+  page-line =
+      ap₂ (λ (k : ℕ) (ds : List ℕ). printed (address / 4 * 8 + frameOf a) k ds cut) (sym (kind-said (address % 4) words)) (sym (digits-said (address % 4) words))
 
   module _ (behind : a < s) (inside : s ≤ length symbols) where
     count : length words ≡ s - (a + 1)
     count = length-take-le (s - (a + 1)) (drop (a + 1) symbols) (omega (arith, length-drop (a + 1) symbols))
 
     pub page-short : length line ≤ 11 * (s - a)
-    page-short =
-        omega (
-          arith,
-          line-short (address / 4 * 8 + frameOf a) (kindHeard (address % 4) (groupsSaid words)) (address % 4) (groupsSaid words) cut,
-          ending-few cut,
-          length-map words (λ x. x % 2 ^ 20),
-          count,
-        )
+    page-short = omega (arith, lines-short (closedAs cut (pageIn symbols a s)), length-map words (λ x. x % 2 ^ 20), count)
 
--- a line that there is room for is printed
-pub line-printed : (old line : List ℕ) {given out : List ℕ} {answer : Printing} → length line ≤ length old → given ≡ line
-    → answer ≡ printingOf (length old) given → out ≡ over old (take (bytesPrinted answer) given) → (answer ≡ Printed (length line)) × (out ≡ over old line)
-line-printed old line h e a o =
-    let printed : printingOf (length old) line ≡ Printed (length line) = rw (le-ltb (length old) (length line) h) in
-    let all = a ∙ ap (printingOf (length old)) e ∙ printed in
-    (all, o ∙ ap (over old) (ap₂ (λ (p : Printing) (l : List ℕ). take (bytesPrinted p) l) all e ∙ take-length line))
+    -- with room for its slots it is printed
+    pub page-printed : (old out : List ℕ) {answer : Printing} {bytes : List ℕ} → 10 * (s - a) ≤ length old → 11 * (s - a) ≤ length out
+        → answer ≡ printingHeard (length old) (length out) heard → bytes ≡ over out (lineWritten (length old) (length out) heard)
+        → (answer ≡ Printed (length line)) × (bytes ≡ over out line)
+    page-printed old out d r a o =
+        let enough = room-enough (length old) (length out) heard (omega (arith, count)) (omega (arith, count)) in
+        (rw enough at a ∙ ap (λ (l : List ℕ). Printed (length l)) page-line, rw enough at o ∙ ap (over out) page-line)
 
 pub no-room-printed : {n : ℕ} → NoRoom ≡ Printed n → ⊥
 no-room-printed e = let z : _≡_ {A = ℕ} 0 1 = cc in omega arith

@@ -10,7 +10,7 @@ ghost use Rattle.text.specs.Fives.{fives};
 ghost use Rattle.reader.specs.Meaning.{codewordMeaning, meaning, isSync};
 ghost use Rattle.reader.specs.Changed.{unlessLost, slotChanged, slotsChanged, syncsChanged};
 ghost use Rattle.reader.specs.Reading.{closedAs, slotWord, syncWord, heardIn};
-ghost use Rattle.reader.specs.Lines.{kindHeard, digitsHeard, lineHeard};
+ghost use Rattle.reader.specs.Lines.{kindHeard, digitsHeard, lineHeard, heardPage, printingHeard, digitsWritten, lineWritten};
 ghost use Rattle.reader.specs.Answers.{firstUnsynced, judgeBatches, judgeWords, faultOf, judgeDecoded, printedInto, answered, linesOf, readWords, readListing, linesRead, numberOf, placeOf};
 ghost use Rattle.reader.specs.Readable.{Readable};
 ghost use Rattle.reader.specs.Symbols.{said, Tells, stateBy, heardBy, pageIn, Printable};
@@ -256,6 +256,32 @@ fn kind(function: u8, groups: &[u32]) -> u8
     }
 }
 
+// Prints the line of a page, as it was heard, over the front of the bytes, and the digits of its text over the front of the lent digits.
+// Nothing is written where there is not room for ten digits a group and for eleven bytes a codeword, the address and each group.
+pub fn print_heard(
+    identity: u32,
+    function: u32,
+    groups: &[u32],
+    cut: bool,
+    digits: &mut [u8],
+    out: &mut [u8],
+) -> Printing
+    ensures { λ r. ⌜ r ≡ printingHeard (length (now (digits .entry))) (length (now (out .entry))) (heardPage identity function (now (groups .entry)) cut) ⌝ }
+    ensures { λ _. ⌜ now (digits .exit) ≡ over (now (digits .entry)) (digitsWritten (length (now (digits .entry))) (length (now (out .entry))) (heardPage identity function (now (groups .entry)) cut)) ⌝ }
+    ensures { λ _. ⌜ now (out .exit) ≡ over (now (out .entry)) (lineWritten (length (now (digits .entry))) (length (now (out .entry))) (heardPage identity function (now (groups .entry)) cut)) ⌝ }
+{
+    if digits.len() / 10 < groups.len() {
+        return Printing::NoRoom;
+    }
+    if out.len() / 11 <= groups.len() {
+        return Printing::NoRoom;
+    }
+    let function = (function % 4) as u8;
+    let n = write_page(function, groups, digits);
+    let kind = kind(function, groups);
+    job::print_line(out, identity, kind, &digits[..n], cut)
+}
+
 // Prints the line of the page whose address is in slot a and whose message words fill the slots from there to slot s, over the front
 // of the bytes, and answers its length. The digits of its text are written over the front of the lent digits.
 fn print_page(
@@ -271,14 +297,11 @@ fn print_page(
     ensures { λ _. ⌜ now (out .exit) ≡ over (now (out .entry)) (lineHeard (closedAs cut (pageIn (now (symbols .entry)) a s))) ⌝ }
 {
     let address = symbols[a];
-    let function = (address % 4) as u8;
     let frame = (a % 16 / 2) as u32;
     let identity = address / 4 * 8 + frame;
     let first = a + 1;
     let groups = &symbols[first..s];
-    let n = write_page(function, groups, digits);
-    let kind = kind(function, groups);
-    let Printing::Printed(bytes) = job::print_line(out, identity, kind, &digits[..n], cut) else {
+    let Printing::Printed(bytes) = print_heard(identity, address, groups, cut, digits, out) else {
         return 0;
     };
     bytes
