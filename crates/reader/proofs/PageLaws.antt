@@ -107,6 +107,12 @@ module _ (old out : List ℕ) (h : Hearing) where
       let there = line-printed out (lineHeard h) (omega (arith, lines-short h)) e a o in
       rw (room-enough (length old) (length out) h (omega arith) (omega arith)) (there .0, (w, there .1))
 
+  -- what a caller has who lends enough of both
+  pub heard-whole : {answer : Printing} {bytes : List ℕ} → 10 * length (h .groups) ≤ length old → 11 * (length (h .groups) + 1) ≤ length out
+      → answer ≡ printingHeard (length old) (length out) h → bytes ≡ over out (lineWritten (length old) (length out) h)
+      → (answer ≡ Printed (length (lineHeard h))) × (bytes ≡ over out (lineHeard h))
+  heard-whole d r a o = let enough = room-enough (length old) (length out) h d r in (rw enough at a, rw enough at o)
+
 -- ---- a message word's symbol in the place of its group
 
 bit-said : (xs : List ℕ) (p : ℕ) → bitIn (groupsSaid xs) p ≡ bitIn xs p
@@ -180,8 +186,8 @@ module _ (symbols : List ℕ) (a s : ℕ) (cut : Bool) where
         → answer ≡ printingHeard (length old) (length out) heard → bytes ≡ over out (lineWritten (length old) (length out) heard)
         → (answer ≡ Printed (length line)) × (bytes ≡ over out line)
     page-printed old out d r a o =
-        let enough = room-enough (length old) (length out) heard (omega (arith, count)) (omega (arith, count)) in
-        (rw enough at a ∙ ap (λ (l : List ℕ). Printed (length l)) page-line, rw enough at o ∙ ap (over out) page-line)
+        let there = heard-whole old out heard (omega (arith, count)) (omega (arith, count)) a o in
+        (there .0 ∙ ap (λ (l : List ℕ). Printed (length l)) page-line, there .1 ∙ ap (over out) page-line)
 
 pub no-room-printed : {n : ℕ} → NoRoom ≡ Printed n → ⊥
 no-room-printed e = let z : _≡_ {A = ℕ} 0 1 = cc in omega arith
