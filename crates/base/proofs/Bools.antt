@@ -26,6 +26,10 @@ pub or-true : (a b : Bool) → a || b ≡ true → (a ≡ true) ⊎ (b ≡ true)
 or-true true b e = inl refl
 or-true false b e = inr e
 
+pub or-false : (a b : Bool) → a || b ≡ false → (a ≡ false) × (b ≡ false)
+or-false true b e = absurd (true-false refl e)
+or-false false b e = (refl, e)
+
 -- the same of tests that were computed
 pub and-left : (a b : Bool) → T (a && b) → T a
 and-left true b t = tt

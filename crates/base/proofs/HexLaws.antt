@@ -13,7 +13,7 @@ use lib.Seq.{drop-cons, take-nil}
 use borrow.Author.Tests.{leb-true, leb-false, le-leb, lt-leb, lt-ltb, eq-eqb, ne-eqb, eqb-true}
 use Rattle.base.specs.Hex.{between, isHex, hexOf, digitValue, digitOf, hexNumber, hexWord, digitsOf, bytesOf, pairsOf}
 use Rattle.base.specs.Leading.{leading}
-use Rattle.base.specs.Lists.{Begins}
+use Rattle.base.specs.Lists.{Begins, has}
 use Rattle.base.specs.declared.HexWord.the-variants.{Number, NotHex}
 use Rattle.base.proofs.Bools.{either, and-true, and-both, true-false}
 use Rattle.base.proofs.LeadingLaws.{leading-cons}
@@ -260,3 +260,25 @@ pairs-back (x ∷ y ∷ s) e h =
     let low : (hexOf x * 16 + hexOf y) % 16 ≡ hexOf y = omega (arith, hex-small y) in
     ap₂ _∷_ (ap digitOf high ∙ value-digit x (p .0))
     (ap₂ _∷_ (ap digitOf low ∙ value-digit y (q .0)) (pairs-back s (omega arith) (q .1)))
+
+-- ---- a value below that of '0', as a space, `-` or a newline is
+
+module _ (x : ℕ) (low : x < 48) where
+  -- no digit has it
+  pub digit-not : (v : ℕ) → eqb (digitOf v) x ≡ false
+  unfolding digitOf
+  digit-not v = go (leb v 9)
+    where
+      go : (b : Bool) → eqb (cond b (v + 48) (v + 55)) x ≡ false
+      go true = ne-eqb (v + 48) x (λ e. omega arith)
+      go false = ne-eqb (v + 55) x (λ e. omega arith)
+
+  pub digits-lack : (k n : ℕ) → has x (digitsOf k n) ≡ false
+  unfolding has digitsOf
+  digits-lack zero n = refl
+  digits-lack (suc k) n = rw (digit-not (n / 16 ^ k % 16)) (digits-lack k n)
+
+  pub pairs-lack : (s : List ℕ) → has x (pairsOf s) ≡ false
+  unfolding has pairsOf
+  pairs-lack [] = refl
+  pairs-lack (b ∷ s) = rw (digit-not (b / 16), digit-not (b % 16)) (pairs-lack s)

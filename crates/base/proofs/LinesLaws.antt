@@ -1,7 +1,7 @@
 -- Laws of lines: what is left of a text from a byte on, by where its first line ends. Assumes nothing.
 use Prim.Native.Nat.{ℕ, zero, suc, _+_, _-_, _≤_, _<_, min}
 use mathlib.Core.Path.{_≡_, refl, ap}
-use mathlib.Core.List.{List, [], _∷_}
+use mathlib.Core.List.{List, [], _∷_, _++_}
 use mathlib.Core.Bool.{true, false}
 use mathlib.Core.Logic.{⊎-elim}
 use native.Mathlib.Nat.{eq-or-lt-of-le}
@@ -10,8 +10,9 @@ use lib.ListN.{length, take, drop, length-drop, drop-of-length-le}
 use lib.Seq.{length-take-le, drop-drop}
 use lib.Dec.{eqb}
 use Rattle.base.specs.Leading.{leading}
+use Rattle.base.specs.Lists.{has}
 use Rattle.base.specs.Lines.{behind, line, split, lineAt, lineCount, lineStart, notNewline, lineEnd}
-use Rattle.base.proofs.Bools.{either}
+use Rattle.base.proofs.Bools.{either, or-false}
 use Rattle.base.proofs.LeadingLaws.{leading-le, leading-take}
 
 -- the first line of a text that has a newline
@@ -23,6 +24,12 @@ split-line (b ∷ s) h =
     (λ (e : eqb b 10 ≡ true). simp e)
     (λ (e : eqb b 10 ≡ false). let h' = simp e at h in simp (e, split-line s (omega arith)))
     (either (eqb b 10))
+
+-- bytes without a newline, with one behind them, are a line
+pub split-whole : (l rest : List ℕ) → has 10 l ≡ false → split (l ++ (10 ∷ rest)) ≡ line l (split rest)
+unfolding has split
+split-whole [] rest e = refl
+split-whole (b ∷ l) rest e = let (x, y) = or-false (eqb b 10) (has 10 l) e in rw (x, split-whole l rest y)
 
 -- a text that has none
 split-last : (s : List ℕ) → leading notNewline s ≡ length s → split s ≡ behind s

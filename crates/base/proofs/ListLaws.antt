@@ -1,13 +1,15 @@
 -- Laws of lists: filling loops, lists by index. Assumes nothing.
 use Prim.Native.Nat.{ℕ, zero, suc, _+_, _-_, _≤_, _<_, zero-le, suc-le-suc}
 use mathlib.Core.Path.{_≡_, refl, sym, ap, ap₂, _∙_}
+use mathlib.Core.Bool.{_||_, or-assoc}
 use mathlib.Core.List.{List, [], _∷_, _++_, map, append-nil, append-assoc}
 use native.Mathlib.Nat.{not-suc-le-zero, le-of-suc-le-suc}
 use native.Mathlib.Numerals.{add-one}
 use native.Mathlib.Omega.{arith}
+use lib.Dec.{eqb}
 use lib.ListN.{length, set, getD, take, drop, replicate, length-drop, length-append, drop-of-length-le}
 use lib.Seq.{take-all, take-nil, drop-cons, drop-drop, append-snoc, take-append-seam, drop-append-seam, set-append-seam}
-use Rattle.base.specs.Lists.{over, tab, padded}
+use Rattle.base.specs.Lists.{over, tab, padded, has}
 
 -- a part that goes to the end of its slice
 pub to-end : (a : ℕ) (l : List ℕ) → take (length l - a) (drop a l) ≡ drop a l
@@ -19,6 +21,12 @@ drop-take zero n l = let e : n - 0 ≡ n = omega arith in rw e
 drop-take (suc m) zero l = let e : 0 - suc m ≡ 0 = omega arith in rw e
 drop-take (suc m) (suc n) [] = sym (take-nil (suc n - suc m))
 drop-take (suc m) (suc n) (x ∷ l) = let e : suc n - suc m ≡ n - m = omega arith in rw e (drop-take m n l)
+
+-- what one list or the other has
+pub has-append : (x : ℕ) (s t : List ℕ) → has x (s ++ t) ≡ has x s || has x t
+unfolding has
+has-append x [] t = refl
+has-append x (b ∷ s) t = rw (has-append x s t) (sym (or-assoc (eqb b x) (has x s) (has x t)))
 
 -- ---- filling loops
 

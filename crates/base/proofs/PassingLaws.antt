@@ -1,33 +1,39 @@
 -- Laws of `passing`: the elements that pass a test stand in the list in the same order. Assumes nothing.
 use mathlib.Core.Path.{_≡_, refl, ap}
 use mathlib.Core.Bool.{Bool, true, false, cond}
-use mathlib.Core.List.{List, [], _∷_, _++_}
+use mathlib.Core.List.{List, [], _∷_, _++_, append-nil}
 use Prim.Native.Nat.{ℕ, zero, suc, _<_, zero-le, suc-le-suc}
 use native.Mathlib.Nat.{not-suc-le-zero, le-of-suc-le-suc}
 use lib.ListN.{length, getD}
 use Rattle.base.specs.Passing.{passing}
 use Rattle.base.proofs.Bools.{true-false}
 
-module _ (f : ℕ → Bool) where
-  -- ---- one element more at the end
-
+module _ {A : Type 0} (f : A → Bool) where
   -- an element in front, where it passes
-  onto : (b : Bool) (x p : ℕ) (l m : List ℕ) → l ≡ m ++ (p ∷ []) → cond b (x ∷ l) l ≡ cond b (x ∷ m) m ++ (p ∷ [])
-  onto true x p l m e = ap (λ (t : List ℕ). x ∷ t) e
-  onto false x p l m e = e
+  onto : (b : Bool) (x : A) (l m r : List A) → l ≡ m ++ r → cond b (x ∷ l) l ≡ cond b (x ∷ m) m ++ r
+  onto true x l m r e = ap (λ (t : List A). x ∷ t) e
+  onto false x l m r e = e
 
-  pub passing-more : (o : List ℕ) (p : ℕ) → f p ≡ true → passing f (o ++ (p ∷ [])) ≡ passing f o ++ (p ∷ [])
+  -- those of two lists, one behind the other
+  pub passing-append : (o p : List A) → passing f (o ++ p) ≡ passing f o ++ passing f p
   unfolding passing
-  passing-more [] p e = rw e
-  passing-more (x ∷ o) p e = onto (f x) x p (passing f (o ++ (p ∷ []))) (passing f o) (passing-more o p e)
+  passing-append [] p = refl
+  passing-append (x ∷ o) p = onto (f x) x (passing f (o ++ p)) (passing f o) (passing f p) (passing-append o p)
 
-  pub passing-skip : (o : List ℕ) (p : ℕ) → f p ≡ false → passing f (o ++ (p ∷ [])) ≡ passing f o
+  -- one element
+  pub passing-one : (p : A) {b : Bool} → f p ≡ b → passing f (p ∷ []) ≡ cond b (p ∷ []) []
   unfolding passing
-  passing-skip [] p e = rw e
-  passing-skip (x ∷ o) p e = ap (λ (t : List ℕ). cond (f x) (x ∷ t) t) (passing-skip o p e)
+  passing-one p e = rw e
+
+  -- one element more at the end
+  pub passing-more : (o : List A) (p : A) → f p ≡ true → passing f (o ++ (p ∷ [])) ≡ passing f o ++ (p ∷ [])
+  passing-more o p e = rw (passing-append o (p ∷ []), passing-one p e)
+
+  pub passing-skip : (o : List A) (p : A) → f p ≡ false → passing f (o ++ (p ∷ [])) ≡ passing f o
+  passing-skip o p e = rw (passing-append o (p ∷ []), passing-one p e) (append-nil (passing f o))
 
   -- where all pass
-  pub passing-all : ((p : ℕ) → f p ≡ true) → (o : List ℕ) → passing f o ≡ o
+  pub passing-all : ((p : A) → f p ≡ true) → (o : List A) → passing f o ≡ o
   unfolding passing
   passing-all h [] = refl
   passing-all h (x ∷ o) = rw (h x, passing-all h o)

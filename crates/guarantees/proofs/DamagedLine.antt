@@ -26,10 +26,9 @@ use Rattle.guarantees.specs.Demand2.{pageLine}
 use Rattle.guarantees.specs.Demand3.{page, count}
 use Rattle.guarantees.specs.NothingFalse.{slotCount, addressSlot, slotFlips, slotLost, Undamaged, hasDash, Cut, LineOf}
 use Rattle.guarantees.proofs.Received.{outside, few-flips}
-use Rattle.guarantees.proofs.Digits.{digitsFrom, digits-begin, digits-whole, digits-undashed, Shown, shown}
+use Rattle.guarantees.proofs.Digits.{digitsFrom, digits-begin, digits-whole, digits-undashed, printed-dash, Shown, shown}
 use Rattle.guarantees.proofs.LineBack.{HeardBack, page-back, line-back}
 use Rattle.guarantees.proofs.Counts.{groups-count, sent-count}
-use Rattle.guarantees.proofs.Dash.{printed-dash}
 
 module _ (s : Submission) (words : List ℕ) (p : ℕ) where
   pub not-lost : slotFlips s words p ≤ 2 → slotLost s words p ≡ false

@@ -9,20 +9,21 @@ use native.Mathlib.Omega.{arith}
 use lib.Dec.{eqb}
 use lib.ListN.{length, take}
 use Rattle.base.specs.Hex.{pairsOf}
-use Rattle.base.specs.Lists.{tab, Begins}
-use Rattle.base.proofs.HexLaws.{pairs-length, pairs-begin}
+use Rattle.base.specs.Lists.{tab, Begins, has}
+use Rattle.base.proofs.HexLaws.{pairs-length, pairs-begin, pairs-lack}
 use Rattle.base.proofs.SearchLaws.{le-or-lt}
 use Rattle.text.specs.Fives.{fives}
 use Rattle.text.specs.Heard.{trimmed, heardText}
 use Rattle.text.specs.declared.Coding.{Coding}
 use Rattle.text.specs.declared.Coding.the-variants.{Numeric, Alphanumeric}
-use Rattle.text.proofs.FivesBack.{fives-length, fives-begin}
+use Rattle.text.proofs.FivesBack.{fives-length, fives-begin, fives-lack}
 use Rattle.text.proofs.TextFront.{text-front}
 use Rattle.job.specs.Line.{isData, codingOf, functionOf}
+use Rattle.job.specs.Print.{ending, printed}
 use Rattle.job.proofs.Message.{no-data}
+use Rattle.job.proofs.PrintLaws.{printed-has}
 use Rattle.reader.specs.Lines.{kindHeard, digitsHeard}
 use Rattle.guarantees.specs.NothingFalse.{hasDash, together}
-use Rattle.guarantees.proofs.Dash.{in-pairs, in-fives}
 
 -- ---- the digits of a kind's groups
 
@@ -49,8 +50,17 @@ pub digits-undashed : (kind : ℕ) (gs : List ℕ) → hasDash (digitsFrom kind 
 digits-undashed kind gs = go (isData kind)
   where
     go : (d : Bool) → hasDash (cond d (fives gs) (pairsOf (heardText (codingOf kind) gs))) ≡ false
-    go true = in-fives gs
-    go false = in-pairs (heardText (codingOf kind) gs)
+    go true = fives-lack 45 (omega arith) gs
+    go false = pairs-lack 45 (omega arith) (heardText (codingOf kind) gs)
+
+-- so a line has `-` exactly where it is cut short
+pub printed-dash : (identity kind : ℕ) (digits : List ℕ) (cut : Bool) → hasDash digits ≡ false → hasDash (printed identity kind digits cut) ≡ cut
+unfolding has
+printed-dash identity kind digits cut none = printed-has 45 (omega arith) refl identity kind digits cut none ∙ go cut
+  where
+    go : (x : Bool) → hasDash (ending x) ≡ x
+    go true = refl
+    go false = refl
 
 -- ---- what is heard
 

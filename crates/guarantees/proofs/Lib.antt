@@ -17,6 +17,5 @@ pub mod Listed
 pub mod Programs
 pub mod Demand3
 pub mod Card
-pub mod Dash
 pub mod DamagedLine
 pub mod NothingFalse

@@ -1,12 +1,11 @@
 -- R-9, nothing false with three wrong bits: what is read of a job's transmission with up to two flips in a sync and three in a frame codeword.
 -- `nothing-false` in proofs/NothingFalse.antt proves it.
 use mathlib.Core.Path.{_≡_}
-use mathlib.Core.Bool.{Bool, true, false, cond, _||_}
-use mathlib.Core.List.{List, [], _∷_, flatMap}
+use mathlib.Core.Bool.{Bool, true, false, cond}
+use mathlib.Core.List.{List, flatMap}
 use Prim.Native.Nat.{ℕ, _+_, _*_, _%_, _≤_, _<_}
-use lib.Dec.{eqb}
 use lib.ListN.{length, getD, take, drop}
-use Rattle.base.specs.Lists.{Begins}
+use Rattle.base.specs.Lists.{Begins, has}
 use Rattle.codeword.specs.Nearest.{nearest}
 use Rattle.job.specs.Submission.{Submission}
 use Rattle.job.specs.Line.{isData, functionOf}
@@ -60,9 +59,8 @@ pub record Undamaged (s : Submission) (words : List ℕ) (i : ℕ) : Type 0 wher
 -- ---- the line of a page whose address has at most two flips
 
 -- it has the byte `-`
-unfoldable pub hasDash : List ℕ → Bool
-hasDash [] = false
-hasDash (b ∷ line) = eqb b 45 || hasDash line
+abbrev pub hasDash : List ℕ → Bool
+hasDash = has 45
 
 -- how many digits of a text belong together: a character's pair, or a group of data
 abbrev pub together : ℕ → ℕ

@@ -1,6 +1,7 @@
 -- Laws of data: how many groups there are, that each has 20 bits, and that their digits come back. Assumes nothing.
 use Prim.Native.Nat.{ℕ, zero, suc, _+_, _*_, _/_, _^_, _≤_, _<_}
 use mathlib.Core.Path.{_≡_, refl, sym, ap, ap₂, _∙_}
+use mathlib.Core.Bool.{false}
 use mathlib.Core.List.{List, [], _∷_, _++_}
 use mathlib.Core.Logic.{⊎-elim}
 use native.Mathlib.Nat.{pow-le-pow-right}
@@ -9,10 +10,10 @@ use lib.ListN.{length, getD, take, drop, length-drop, length-take, length-append
 use lib.Seq.{length-take-le, drop-drop, take-all, take-add, take-append-add}
 use Rattle.base.specs.Hex.{isHex, hexNumber, digitsOf}
 use Rattle.base.specs.Leading.{leading}
-use Rattle.base.specs.Lists.{tab, Begins}
-use Rattle.base.proofs.HexLaws.{number-lt, digits-length, number-digits}
+use Rattle.base.specs.Lists.{tab, Begins, has}
+use Rattle.base.proofs.HexLaws.{number-lt, digits-length, number-digits, digits-lack}
 use Rattle.base.proofs.LeadingLaws.{leading-cons}
-use Rattle.base.proofs.ListLaws.{tab-length, tab-at, tab-same}
+use Rattle.base.proofs.ListLaws.{has-append, tab-length, tab-at, tab-same}
 use Rattle.base.proofs.SearchLaws.{le-or-lt}
 use Rattle.text.specs.Fives.{fiveAt, fivesIn, fives, FivesBack}
 
@@ -91,3 +92,9 @@ front-is (suc k) (g ∷ gs) =
 
 pub fives-begin : (k : ℕ) (gs : List ℕ) → Begins (fives (take k gs)) (fives gs)
 fives-begin k gs = rw (fives-length (take k gs)) (front-is k gs)
+
+-- no value below that of '0' is among them
+pub fives-lack : (x : ℕ) → x < 48 → (gs : List ℕ) → has x (fives gs) ≡ false
+unfolding has fives
+fives-lack x low [] = refl
+fives-lack x low (g ∷ gs) = rw (has-append x (digitsOf 5 g) (fives gs), digits-lack x low 5 g) (fives-lack x low gs)
