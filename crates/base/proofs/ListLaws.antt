@@ -7,8 +7,8 @@ use native.Mathlib.Nat.{not-suc-le-zero, le-of-suc-le-suc}
 use native.Mathlib.Numerals.{add-one}
 use native.Mathlib.Omega.{arith}
 use lib.Dec.{eqb}
-use lib.ListN.{length, set, getD, take, drop, replicate, length-drop, length-append, drop-of-length-le}
-use lib.Seq.{take-all, take-nil, drop-cons, drop-drop, append-snoc, take-append-seam, drop-append-seam, set-append-seam}
+use lib.ListN.{length, set, getD, take, drop, replicate, length-take, length-drop, length-append, drop-of-length-le}
+use lib.Seq.{take-all, take-length, take-nil, drop-cons, drop-drop, append-snoc, take-append-seam, drop-append-seam, set-append-seam}
 use Rattle.base.specs.Lists.{over, tab, padded, has}
 
 -- a part that goes to the end of its slice
@@ -150,3 +150,15 @@ module _ (f : ℕ → ℕ) (n : ℕ) (old : List ℕ) (size : length old ≡ n) 
   -- its end
   pub tab-full : i ≡ n → l ≡ tab f n
   tab-full q = e ∙ rw (q ∙ sym (tab-length f n), filled-over old (tab f n)) (over-all old (tab f n) (omega (arith, tab-length f n)))
+
+-- ---- a text that stands at the front of a buffer, and is copied from there over the front of another
+
+module _ {text : List ℕ} (buffer : List ℕ) {n : ℕ} (size : n ≡ length text) (stands : take n buffer ≡ text) where
+  pub stands-inside : n ≤ length buffer
+  stands-inside = omega (arith, ap length stands, length-take n buffer)
+
+  pub stands-size : n ≡ length (take n buffer)
+  stands-size = size ∙ sym (ap length stands)
+
+  pub stands-copied : (old : List ℕ) {out : List ℕ} → out ≡ take (length (take n buffer)) (take n buffer) ++ drop (length (take n buffer)) old → out ≡ over old text
+  stands-copied old e = e ∙ ap (λ (t : List ℕ). t ++ drop (length (take n buffer)) old) (take-length (take n buffer)) ∙ ap (over old) stands

@@ -1,14 +1,12 @@
 -- The answers case by case, as the code goes. Assumes nothing.
 use mathlib.Core.Path.{_≡_, refl, sym, ap, ap₂, _∙_}
 use mathlib.Core.Bool.{Bool, true, false, not, cond, _||_}
-use mathlib.Core.List.{List, _++_}
+use mathlib.Core.List.{List}
 use Prim.Native.Nat.{ℕ, zero, suc, _+_, _*_, _/_, _%_, _≤_, _<_}
 use native.Mathlib.Omega.{arith}
 use lib.Dec.{eqb, ltb}
-use lib.ListN.{length, getD, take, drop, length-take}
-use lib.Seq.{take-length}
+use lib.ListN.{length, getD}
 use borrow.Author.Tests.{lt-ltb, le-ltb, ltb-false, eq-eqb, ne-eqb, eqb-true}
-use Rattle.base.specs.Lists.{over}
 use Rattle.base.proofs.SearchLaws.{least-only}
 use Rattle.codeword.specs.Nearest.{nearest}
 use Rattle.listing.specs.Listing.{listingOf}
@@ -44,12 +42,6 @@ module _ (words : List ℕ) (q : ℕ) where
 -- ---- the lines of all slots, printed into a buffer of their own
 
 module _ {symbols : List ℕ} {p : Progress} {lines : List ℕ} (k : KeptAll symbols p lines) where
-  pub all-inside : p .bytes ≤ length lines
-  all-inside = omega (arith, k .size, ap length (k .printed), length-take (p .bytes) lines)
-
-  pub all-size : p .bytes ≡ length (take (p .bytes) lines)
-  all-size = k .size ∙ sym (ap length (k .printed))
-
   module _ (old : List ℕ) (changed : Changes) where
     -- they are longer than the lent slice
     pub no-room : length old < p .bytes → NoRoom ≡ printedInto (heardBy symbols changed) (length old)
@@ -66,13 +58,6 @@ module _ {symbols : List ℕ} {p : Progress} {lines : List ℕ} (k : KeptAll sym
           k .orphans,
           k .size,
         )
-
-    pub all-copied : {out : List ℕ} → out ≡ take (length (take (p .bytes) lines)) (take (p .bytes) lines) ++ drop (length (take (p .bytes) lines)) old
-        → out ≡ over old (linesHeard (heardBy symbols changed .pages))
-    all-copied e =
-        e
-        ∙ ap (λ (l : List ℕ). l ++ drop (length (take (p .bytes) lines)) old) (take-length (take (p .bytes) lines))
-        ∙ ap (over old) (k .printed)
 
 -- ---- whole batches
 

@@ -12,7 +12,7 @@ use Rattle.base.specs.Lists.{over}
 use Rattle.base.proofs.ListLaws.{over-part, over-length}
 use Rattle.text.specs.Fives.{fives}
 use Rattle.reader.specs.Reading.{Hearing}
-use Rattle.reader.specs.Lines.{lineHeard, linesHeard}
+use Rattle.reader.specs.Lines.{lineHeard, linesHeard, LinesMore}
 
 pub flat-append : {A : Type 0} (f : A → List ℕ) (xs ys : List A) → flatMap f (xs ++ ys) ≡ flatMap f xs ++ flatMap f ys
 unfolding flatMap
@@ -83,5 +83,5 @@ unfolding linesHeard flatMap
 lines-flat [] = refl
 lines-flat (h ∷ hs) = ap (λ (l : List ℕ). lineHeard h ++ l) (lines-flat hs)
 
-pub lines-more : (hs : List Hearing) (h : Hearing) → linesHeard (hs ++ (h ∷ [])) ≡ linesHeard hs ++ lineHeard h
+pub lines-more : LinesMore
 lines-more hs h = lines-flat (hs ++ (h ∷ [])) ∙ flat-append lineHeard hs (h ∷ []) ∙ rw (flat-one lineHeard h, lines-flat hs)

@@ -3,8 +3,9 @@ use mathlib.Core.Path.{refl}
 use native.Mathlib.Omega.{arith}
 use denote.Ref.{now}
 use borrow.Author.Needs.{needs}
+use Rattle.base.proofs.ListLaws.{stands-inside, stands-size, stands-copied}
 use Rattle.reader.specs.Progress.{KeptAll}
-use Rattle.reader.proofs.AnswerLaws.{all-inside, all-size, no-room, all-read, all-copied}
+use Rattle.reader.proofs.AnswerLaws.{no-room, all-read}
 use Rattle.reader.proofs.read_into.Statement.{statement}
 use Rattle.reader.proofs.read_into.Tie as tie
 
@@ -27,13 +28,13 @@ returns c =
     (no-room (kept (c .before .before .before .before .before)) (now (a .out)) (a .changed) (c .if1 .taken), refl)
 
 slice-reshare-prefix-copy : tie.Need-slice-reshare-prefix-copy
-slice-reshare-prefix-copy c = all-inside (kept (c .before .before .before .before .before))
+slice-reshare-prefix-copy c = let k = kept (c .before .before .before .before .before) in stands-inside _ (k .size) (k .printed)
 
 slice-aggregate-copy : tie.Need-slice-aggregate-copy
-slice-aggregate-copy c = all-size (kept (c .before .before .before .before .before .before))
+slice-aggregate-copy c = let k = kept (c .before .before .before .before .before .before) in stands-size _ (k .size) (k .printed)
 
 copy-requires : tie.Need-copy-requires
-copy-requires c κs = omega (arith, all-size (kept (c .before .before .before .before .before .before .before)))
+copy-requires c κs = let k = kept (c .before .before .before .before .before .before .before) in omega (arith, stands-size _ (k .size) (k .printed))
 
 same-length-3 : tie.Need-same-length-3
 same-length-3 c = search needs
@@ -49,7 +50,7 @@ returns-2 c =
     let heard = kept (c .before .before .before .before .before .before .before .before .before .before) in
     let a = c .before .before .before .before .before .before .before .before .before .before .before .before .before .before .before .before .before .args in
     let old = now (a .out) in
-    (all-read heard old (a .changed) (c .before .before .before .before .before .if1 .left), all-copied heard old (a .changed) (c .before .before .copy .ensures .1))
+    (all-read heard old (a .changed) (c .before .before .before .before .before .if1 .left), stands-copied _ (heard .size) (heard .printed) old (c .before .before .copy .ensures .1))
 
 pub read-into-spec : {M : Type 1} → statement M
 read-into-spec =
