@@ -1,0 +1,9 @@
+pub mod Follows
+pub mod SlotLaws
+pub mod FrameLaws
+pub mod Going
+pub mod Printing
+pub mod Sofar
+pub mod AnswerLaws
+pub mod RoomLaws
+pub mod SameLines
