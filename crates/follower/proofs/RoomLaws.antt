@@ -1,4 +1,4 @@
--- The lines of one identity are no longer than those of all pages, and so much room suffices. Assumes nothing.
+-- The lines of one identity are no longer than those of all pages, so that as much room suffices; how many bytes are written. Assumes nothing.
 use mathlib.Core.Path.{_≡_}
 use mathlib.Core.Bool.{Bool, true, false, cond}
 use mathlib.Core.List.{List, [], _∷_}
@@ -22,8 +22,8 @@ use Rattle.reader.proofs.RoomLaws as reader
 use Rattle.follower.specs.Pages.{ofIdentity, pagesFor}
 use Rattle.follower.specs.Answers.{linesInto, unlessFaulty, followJudged, followWords, followListing, numberOf}
 use Rattle.follower.specs.Enough.{Enough}
-use Rattle.follower.specs.declared.Following.the-variants.{Declined}
-use Rattle.follower.specs.declared.Refusal.the-variants.{IdentityRange, IdentityReserved}
+use Rattle.follower.specs.declared.Following.the-variants.{Followed, Declined}
+use Rattle.follower.specs.declared.Refusal.the-variants.{IdentityRange, IdentityReserved, NoRoom}
 
 -- some of the lines are no longer than all
 fewer : (i : ℕ) (hs : List Hearing) → length (linesHeard (ofIdentity i hs)) ≤ length (linesHeard hs)
@@ -73,3 +73,29 @@ listing-fits i s room l = judged-fits i (wordsOf s) room l (judgeListing s) (rea
 
 pub enough : (i : ℕ) → Enough i
 enough i = record { of-words = words-fit i; of-listing = listing-fits i }
+
+-- ---- how many bytes are written
+
+module _ {lines m : ℕ} where
+  into-size : (hs : List Hearing) (room : ℕ) → Followed lines m ≡ linesInto hs room → m ≡ length (linesHeard hs)
+  into-size hs room e = go (ltb room (length (linesHeard hs))) e
+    where
+      go : (b : Bool) → Followed lines m ≡ cond b (Declined NoRoom) (Followed (length hs) (length (linesHeard hs))) → m ≡ length (linesHeard hs)
+      go true f = let z : _≡_ {A = ℕ} 0 1 = cc in absurd (omega arith)
+      go false f = cc
+
+  judged-size : (i : ℕ) (v : Verdict) (words : List ℕ) (room : ℕ) → Followed lines m ≡ followJudged i v words room → m ≡ length (linesHeard (pagesFor i words))
+  unfolding followJudged
+  judged-size i v words room e = go (ltb 0x1FFFFF i) (isReserved i) v e
+    where
+      go : (a b : Bool) (x : Verdict) → Followed lines m ≡ cond a (Declined IdentityRange) (cond b (Declined IdentityReserved) (unlessFaulty x (linesInto (pagesFor i words) room)))
+          → m ≡ length (linesHeard (pagesFor i words))
+      go true b x f = let z : _≡_ {A = ℕ} 0 1 = cc in absurd (omega arith)
+      go false true x f = let z : _≡_ {A = ℕ} 0 1 = cc in absurd (omega arith)
+      go false false (Faulty why) f = let z : _≡_ {A = ℕ} 0 1 = cc in absurd (omega arith)
+      go false false Sound f = into-size (pagesFor i words) room f
+
+-- the lines of a following that isn't declined have as many bytes as it answers
+pub bytes-followed : (i : ℕ) (s : List ℕ) (room : ℕ) {lines m : ℕ} → Followed lines m ≡ followListing i s room → m ≡ length (linesHeard (pagesFor i (wordsOf s)))
+unfolding followListing
+bytes-followed i s room e = judged-size i (judgeListing s) (wordsOf s) room e

@@ -29,7 +29,16 @@ use Rattle.reader.specs.declared.Reading.{Reading}
 use Rattle.reader.specs.declared.Reading.the-variants.{Read}
 use Rattle.reader.specs.declared.Reading.the-variants as reading
 use Rattle.reader.proofs.RoomLaws.{bytes-read}
-use Rattle.program.specs.Prints.{isLong, refusalLine, answerText, sendPrints, readPrints}
+use Rattle.follower.specs.Pages.{pagesFor}
+use Rattle.follower.specs.Answers as following
+use Rattle.follower.specs.Answers.{followListing, linesOf}
+use Rattle.follower.specs.declared.Following.{Following}
+use Rattle.follower.specs.declared.Following.the-variants.{Followed}
+use Rattle.follower.specs.declared.Following.the-variants as following-variants
+use Rattle.follower.specs.declared.Refusal as follower
+use Rattle.follower.specs.declared.Refusal.the-variants.{IdentityRange, IdentityReserved, Unread, NoRoom as NoLines}
+use Rattle.follower.proofs.RoomLaws.{bytes-followed}
+use Rattle.program.specs.Prints.{isLong, refusalLine, answerText, sendPrints, readPrints, followPrints}
 
 -- bytes over the front of what was lent, and their number
 abbrev pub Printed : List ℕ → List ℕ → ℕ → List ℕ → Type 0
@@ -108,3 +117,34 @@ module _ (s old : List ℕ) (h : isLong s ≡ false) {out : List ℕ} where
 
   pub read-full : (n : ℕ) → length old ≡ 48000 → reading.NoRoom ≡ readListing s (length old) → Printed old (refusalLine 10 0 0) n out → Printed old (readPrints s) n out
   read-full n room e p = read-is s old reading.NoRoom h room e p
+
+-- ---- the following program
+
+module _ (i : ℕ) (s old : List ℕ) {n : ℕ} {out : List ℕ} where
+  -- number 24
+  pub follow-long : isLong s ≡ true → Printed old (refusalLine 24 0 0) n out → Printed old (followPrints i s) n out
+  unfolding followPrints
+  follow-long h p = same old (refusalLine 24 0 0) (followPrints i s) out n (rw h) p
+
+  -- the lines, or the line of the refusal
+  follow-is : (r : Following) → isLong s ≡ false → length old ≡ 48000 → r ≡ followListing i s (length old)
+      → Printed old (answerText (following.numberOf r) (following.placeOf r) 0 (linesOf r (pagesFor i (wordsOf s)))) n out → Printed old (followPrints i s) n out
+  unfolding followPrints
+  follow-is r h room e p =
+      same old (answerText (following.numberOf r) (following.placeOf r) 0 (linesOf r (pagesFor i (wordsOf s)))) (followPrints i s) out n (rw (h, e, room)) p
+
+-- the cases of the answer
+module _ (i : ℕ) (s old : List ℕ) (h : isLong s ≡ false) {out : List ℕ} where
+  pub follow-whole : (lines n : ℕ) → length old ≡ 48000 → Followed lines n ≡ followListing i s (length old)
+      → out ≡ over old (linesHeard (pagesFor i (wordsOf s))) → Printed old (followPrints i s) n out
+  follow-whole lines n room e o = follow-is i s old (Followed lines n) h room e (bytes-followed i s (length old) e, o)
+
+  pub follow-declined : (n : ℕ) (why : follower.Refusal) → length old ≡ 48000 → following-variants.Declined why ≡ followListing i s (length old)
+      → Printed old (refusalLine (following.numberOf (following-variants.Declined why)) (following.placeOf (following-variants.Declined why)) 0) n out
+      → Printed old (followPrints i s) n out
+  follow-declined n IdentityRange room e p = follow-is i s old (following-variants.Declined IdentityRange) h room e p
+  follow-declined n IdentityReserved room e p = follow-is i s old (following-variants.Declined IdentityReserved) h room e p
+  follow-declined n (Unread (Malformed line)) room e p = follow-is i s old (following-variants.Declined (Unread (Malformed line))) h room e p
+  follow-declined n (Unread (TooMany line)) room e p = follow-is i s old (following-variants.Declined (Unread (TooMany line))) h room e p
+  follow-declined n (Unread (Unsynced batch)) room e p = follow-is i s old (following-variants.Declined (Unread (Unsynced batch))) h room e p
+  follow-declined n NoLines room e p = follow-is i s old (following-variants.Declined NoLines) h room e p

@@ -1,17 +1,23 @@
--- What the programs print for their standard input, the sending one with its phrase book (document 01, "The two programs", and number 24 of
--- its table; requests R-1 and R-6).
+-- What the programs print for their standard input, the sending one with its phrase book, the following one for its identity (document 01,
+-- "The two programs", and number 24 of its table; requests R-1, R-4 and R-6).
 use Prim.Native.Nat.{ℕ, suc, _^_}
 use mathlib.Core.Bool.{Bool, cond}
 use mathlib.Core.List.{List, [], _∷_, _++_}
 use lib.ListN.{length}
 use lib.Dec.{eqb, ltb}
 use Rattle.io.specs.Digits.{digits}
+use Rattle.base.specs.Hex.{hexWord}
 use Rattle.base.specs.Search.{least}
+use Rattle.base.specs.declared.HexWord.{HexWord}
+use Rattle.base.specs.declared.HexWord.the-variants.{NotHex}
 use Rattle.job.specs.Submission.{Submission}
 use Rattle.job_listing.specs.Listed as listed
 use Rattle.job_listing.specs.Listed.{listingText, listedOf}
 use Rattle.listing.specs.Words.{wordsOf}
 use Rattle.reader.specs.Answers.{readListing, linesRead, numberOf, placeOf}
+use Rattle.follower.specs.Pages.{pagesFor}
+use Rattle.follower.specs.Answers as following
+use Rattle.follower.specs.Answers.{followListing, linesOf}
 
 -- how many digits a number below 10^20 has in decimal; 0 has one
 abbrev pub decimalLength : ℕ → ℕ
@@ -58,3 +64,12 @@ sendPrints s =
 unfoldable pub readPrints : List ℕ → List ℕ
 readPrints s =
     unlessLong s (answerText (numberOf (readListing s 48000)) (placeOf (readListing s 48000)) 0 (linesRead (readListing s 48000) (wordsOf s)))
+
+-- the following program, for identity i and with as much room: that identity's page lines in slot order (request R-4)
+unfoldable pub followPrints : ℕ → List ℕ → List ℕ
+followPrints i s =
+    unlessLong s (answerText (following.numberOf (followListing i s 48000)) (following.placeOf (followListing i s 48000)) 0 (linesOf (followListing i s 48000) (pagesFor i (wordsOf s))))
+
+-- the identity that its argument names: six upper-case digits, else none
+abbrev pub identityNamed : List ℕ → HexWord
+identityNamed a = cond (eqb (length a) 6) (hexWord a) NotHex

@@ -1,5 +1,6 @@
-// What the programs do: standard input in, for the sending one with a phrase book, and the bytes out that are printed (document 01, "The two
-// programs", and request R-6). Each program is one call of `send` or `read`, and the few lines around it that read and write.
+// What the programs do: standard input in, for the sending one with a phrase book and for the following one with an identity, and the bytes
+// out that are printed (document 01, "The two programs", and requests R-4 and R-6). Each program is one call of `send`, `read` or `follow`,
+// and the few lines around it that read and write.
 ghost use mathlib.Core.Path.{_≡_};
 ghost use mathlib.Core.List.{_++_};
 ghost use Prim.Native.Nat.{_+_, _≤_};
@@ -7,8 +8,10 @@ ghost use lib.ListN.{length, take, drop};
 ghost use Rattle.io.specs.Counts.{Counts};
 ghost use Rattle.base.specs.Lists.{over};
 ghost use Rattle.job.specs.Submission.{withBook};
-ghost use Rattle.program.specs.Prints.{isLong, decimal, positionPart, refusalLine, sendPrints, readPrints};
+ghost use Rattle.program.specs.Prints.{isLong, decimal, positionPart, refusalLine, sendPrints, readPrints, followPrints, identityNamed};
+use base::HexWord;
 use codeword::Engine;
+use follower::Following;
 use job_listing::Listed;
 use libc::STDIN_FILENO;
 use reader::Reading;
@@ -166,5 +169,33 @@ pub fn read(engine: Engine, input: &[u8], out: &mut [u8; 48000]) -> usize
         } => bytes,
         Reading::Declined(_) => write_refusal(number, place, 0, out),
         Reading::NoRoom => write_refusal(number, place, 0, out),
+    }
+}
+
+// The identity that the following program's argument names: six upper-case digits, or none.
+pub fn identity(argument: &[u8]) -> HexWord
+    ensures { λ r. ⌜ r ≡ identityNamed (now (argument .entry)) ⌝ }
+{
+    if argument.len() != 6 {
+        return HexWord::NotHex;
+    }
+    base::hex_word(argument)
+}
+
+// What the following program prints for an identity and its standard input; answers how many bytes they are.
+pub fn follow(identity: u32, input: &[u8], out: &mut [u8; 48000]) -> usize
+    ensures { λ r. ⌜ r ≡ length (followPrints identity (now (input .entry))) ⌝ }
+    ensures { λ _. ⌜ now (out .exit) ≡ over (now (out .entry)) (followPrints identity (now (input .entry))) ⌝ }
+    ensures { λ r. ⌜ Counts r (now (out .exit)) ⌝ }
+{
+    if is_long(input) {
+        return write_refusal(24, 0, 0, out);
+    }
+    let answer = follower::follow_listing(identity, input, out);
+    let number = follower::number(answer);
+    let place = follower::place(answer);
+    match answer {
+        Following::Followed { lines: _, bytes } => bytes,
+        Following::Declined(_) => write_refusal(number, place, 0, out),
     }
 }
