@@ -12,6 +12,8 @@ use Rattle.job_listing.specs.Listed as listed
 use Rattle.job_listing.specs.declared.Listed.{Listed}
 use Rattle.reader.specs.Answers as reading
 use Rattle.reader.specs.declared.Reading.{Reading}
+use Rattle.follower.specs.Answers as following
+use Rattle.follower.specs.declared.Following.{Following}
 use Rattle.sender.specs.Answer as step
 use Rattle.sender.specs.declared.Answer.{Answer}
 use Rattle.sender.specs.declared.Sender.{Sender}
@@ -19,6 +21,7 @@ use Rattle.card.specs.declared.CardWord.{CardWord}
 use Rattle.card.specs.declared.CardReport.{CardReport}
 use Rattle.card.specs.declared.CardBytes.{CardBytes}
 use Rattle.card.specs.declared.CardReading.{CardReading}
+use Rattle.card.specs.declared.CardFollowing.{CardFollowing}
 use Rattle.card.specs.declared.CardRefusal.{CardRefusal}
 use Rattle.card.specs.declared.CardStep.{CardStep}
 
@@ -58,6 +61,11 @@ readingFor r =
 abbrev pub unreadFor : ℕ → ℕ → CardReading
 unreadFor place number =
     record { place = place; bytes = 0; number = number; pages = 0; lost = 0; orphans = 0; changed = record { slots = 0; syncs = 0 } }
+
+-- the answer of a following
+abbrev pub followingFor : Following → CardFollowing
+followingFor r =
+    record { place = following.placeOf r; bytes = following.bytesFollowed r; number = following.numberOf r; lines = following.linesFollowed r }
 
 -- the answer to a job whose sending is to start
 abbrev pub refusalFor : JobAnswer → CardRefusal

@@ -10,11 +10,14 @@ ghost use Rattle.transmission.specs.Report.{reportOf, wordsSent, slotsSent};
 ghost use Rattle.job_listing.specs.Listed.{listingText, listedOf, bytesListed};
 ghost use Rattle.listing.specs.Words.{wordsOf};
 ghost use Rattle.reader.specs.Answers.{readWords, readListing, linesRead};
+ghost use Rattle.follower.specs.Pages.{pagesFor};
+ghost use Rattle.follower.specs.Answers.{followWords, followListing, linesOf};
 ghost use Rattle.sender.specs.Start.{startedOf};
 ghost use Rattle.sender.specs.Step.{stateFrom, stepOf};
-ghost use Rattle.card.specs.Answers.{wordFor, reportFor, bytesFor, readingFor, unreadFor, refusalFor, stateFor, stepFor};
+ghost use Rattle.card.specs.Answers.{wordFor, reportFor, bytesFor, readingFor, unreadFor, followingFor, refusalFor, stateFor, stepFor};
 use codeword::Correction;
 use codeword::Engine;
+use follower::Following;
 use job::JobAnswer;
 use job_listing::Listed;
 use reader::Changes;
@@ -62,6 +65,15 @@ pub struct CardReading {
     pub lost: u32,
     pub orphans: u32,
     pub changed: Changes,
+}
+
+// How many bytes of one identity's lines are written, and how many lines these are.
+#[repr(C)]
+pub struct CardFollowing {
+    pub place: usize,
+    pub bytes: usize,
+    pub number: u32,
+    pub lines: u32,
 }
 
 // A number and its places.
@@ -305,6 +317,52 @@ pub extern "C" fn card_read_listing_slowly(listing: &[u8], out: &mut [u8]) -> Ca
     ensures { λ _. ⌜ now (out .exit) ≡ over (now (out .entry)) (linesRead (readListing (now (listing .entry)) (length (now (out .entry)))) (wordsOf (now (listing .entry)))) ⌝ }
 {
     read_listing(Engine::Slow, listing, out)
+}
+
+// A following's answer as numbers.
+fn following_numbers(r: Following) -> CardFollowing
+    ensures { λ n. ⌜ n ≡ followingFor r ⌝ }
+{
+    let place = follower::place(r);
+    let number = follower::number(r);
+    match r {
+        Following::Followed { lines, bytes } => CardFollowing {
+            place: place,
+            bytes: bytes,
+            number: number,
+            lines: lines,
+        },
+        Following::Declined(_) => CardFollowing {
+            place: place,
+            bytes: 0,
+            number: number,
+            lines: 0,
+        },
+    }
+}
+
+// Writes the page lines of one identity in words, batches only, over the front of lent bytes.
+#[no_mangle]
+pub extern "C" fn card_follow_words(identity: u32, words: &[u32], out: &mut [u8]) -> CardFollowing
+    ensures { λ r. ⌜ r ≡ followingFor (followWords identity (now (words .entry)) (length (now (out .entry)))) ⌝ }
+    ensures { λ _. ⌜ now (out .exit) ≡ over (now (out .entry)) (linesOf (followWords identity (now (words .entry)) (length (now (out .entry)))) (pagesFor identity (now (words .entry)))) ⌝ }
+{
+    let following = follower::follow_words(identity, words, out);
+    following_numbers(following)
+}
+
+// The same of a listing.
+#[no_mangle]
+pub extern "C" fn card_follow_listing(
+    identity: u32,
+    listing: &[u8],
+    out: &mut [u8],
+) -> CardFollowing
+    ensures { λ r. ⌜ r ≡ followingFor (followListing identity (now (listing .entry)) (length (now (out .entry)))) ⌝ }
+    ensures { λ _. ⌜ now (out .exit) ≡ over (now (out .entry)) (linesOf (followListing identity (now (listing .entry)) (length (now (out .entry)))) (pagesFor identity (wordsOf (now (listing .entry))))) ⌝ }
+{
+    let following = follower::follow_listing(identity, listing, out);
+    following_numbers(following)
 }
 
 // A job with its phrase book started over a state of this cursor, these pages and these flags, whose message words are lent: a declined
