@@ -1,5 +1,5 @@
 -- The answers case by case, as the code goes. Assumes nothing.
-use mathlib.Core.Path.{_≡_, refl, sym, ap, ap₂, _∙_}
+use mathlib.Core.Path.{_≡_}
 use mathlib.Core.Bool.{true, false}
 use mathlib.Core.List.{List}
 use Prim.Native.Nat.{ℕ, _≤_, _<_}
@@ -13,7 +13,7 @@ use Rattle.reader.specs.declared.Fault.{Fault}
 use Rattle.reader.specs.declared.Verdict.{Verdict}
 use Rattle.reader.specs.declared.Verdict.the-variants.{Sound, Faulty}
 use Rattle.follower.specs.Pages.{pagesFor}
-use Rattle.follower.specs.Answers.{linesInto, unlessFaulty, followJudged}
+use Rattle.follower.specs.Answers.{linesInto, followJudged}
 use Rattle.follower.specs.Progress.{Kept}
 use Rattle.follower.specs.declared.Following.{Following}
 use Rattle.follower.specs.declared.Following.the-variants.{Followed, Declined}

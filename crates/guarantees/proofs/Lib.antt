@@ -15,6 +15,7 @@ pub mod Acceptance
 pub mod Carried
 pub mod Listed
 pub mod Programs
+pub mod Desk
 pub mod Demand3
 pub mod Card
 pub mod DamagedLine

@@ -25,6 +25,7 @@ use Rattle.listing.proofs.TextLaws.{text-length}
 use Rattle.reader.specs.Answers.{readListing, linesRead, numberOf, placeOf}
 use Rattle.reader.specs.declared.Changes.{Changes}
 use Rattle.reader.proofs.RoomLaws as reading
+use Rattle.follower.proofs.RoomLaws as following
 use Rattle.job_listing.specs.Listed.{listingText}
 use Rattle.job_listing.proofs.RoomLaws as listing
 use Rattle.program.specs.Prints.{answerText, unlessLong, sendPrints, readPrints}
@@ -37,7 +38,7 @@ use Rattle.guarantees.proofs.Demand2.{demand2}
 use Rattle.guarantees.proofs.Listed.{listing-back}
 
 -- what is printed is what the definition says
-printed : {X : Type 0} (prints : X → List ℕ) {s : X} {old left : List ℕ} {n : ℕ} → ProgramCall prints s old n left → output n left ≡ prints s
+pub printed : {X : Type 0} (prints : X → List ℕ) {s : X} {old left : List ℕ} {n : ℕ} → ProgramCall prints s old n left → output n left ≡ prints s
 printed prints {s} {old} {left} {n} call = ap (take n) (call .bytes) ∙ take-at (prints s) (drop (length (prints s)) old) n (sym (call .count))
 
 -- the sending program prints the refusal of the job or its book, or its listing
@@ -48,17 +49,22 @@ send-is s = let e = listing.enough s 46062 (omega arith) in rw (e .0, e .1, e .2
 send-listing : (s : Submission) (n : ℕ) → jobOf s ≡ Accepted n → sendPrints s ≡ listingText s
 send-listing s n ok = send-is s ∙ rw (le-ltb 65536 (length (s .job)) (omega (arith, accepted-short s n ok)), ok)
 
--- a listing that gives these lines is printed so
-read-lines : (s lines : List ℕ) (pages : ℕ) (changed : Changes) → length s ≤ 65536 → Gives lines pages 0 0 changed 48000 (readListing s 48000) (wordsOf s) → readPrints s ≡ lines
-unfolding readPrints
-read-lines s lines pages changed h g =
-    let fits : length lines ≤ 48000 =
-    ⊎-elim (λ (l : length lines ≤ 48000). l) (λ (l : 48000 < length lines). absurd (reading.enough .of-listing s 48000 (omega arith) (g .declined l .0)))
-    (le-or-lt (length lines) 48000) in
-    rw (le-ltb 65536 (length s) h, ap numberOf (g .answered fits)) (g .written fits)
+-- a listing that gives these lines is read whole, and printed so
+module _ (s lines : List ℕ) {pages : ℕ} {changed : Changes} (g : Gives lines pages 0 0 changed 48000 (readListing s 48000) (wordsOf s)) where
+  fits : length lines ≤ 48000
+  fits =
+      ⊎-elim (λ (l : length lines ≤ 48000). l) (λ (l : 48000 < length lines). absurd (reading.enough .of-listing s 48000 (omega arith) (g .declined l .0)))
+      (le-or-lt (length lines) 48000)
+
+  pub read-whole : numberOf (readListing s 48000) ≡ 0
+  read-whole = ap numberOf (g .answered fits)
+
+  pub read-lines : length s ≤ 65536 → readPrints s ≡ lines
+  unfolding readPrints
+  read-lines h = rw (le-ltb 65536 (length s) h, read-whole) (g .written fits)
 
 -- the listing of as many words as a transmission has is no input of over 65,536 bytes
-received-short : (s : Submission) (n : ℕ) → jobOf s ≡ Accepted n → (words : List ℕ) → Received 2 (transmissionOf (sendingsOf s)) words → length (textOf words) ≤ 65536
+pub received-short : (s : Submission) (n : ℕ) → jobOf s ≡ Accepted n → (words : List ℕ) → Received 2 (transmissionOf (sendingsOf s)) words → length (textOf words) ≤ 65536
 received-short s n ok words r =
     omega (arith, text-length 0 words, text-length 0 (transmissionOf (sendingsOf s)), listing.listing-short s n ok, r .whole)
 
@@ -69,9 +75,9 @@ programs s n ok =
       sent = λ old left m call. printed sendPrints call ∙ sent;
       read-back = λ old left old' left' m m' call read.
           printed readPrints read ∙ ap readPrints (printed sendPrints call ∙ sent)
-          ∙ read-lines (listingText s) (linesInOrder s) n _ (omega (arith, listing.listing-short s n ok)) (listing-back s n ok 48000);
+          ∙ read-lines (listingText s) (linesInOrder s) (listing-back s n ok 48000) (omega (arith, listing.listing-short s n ok));
       flipped = λ words old left m r read.
-          printed readPrints read ∙ read-lines (textOf words) (linesInOrder s) n _ (received-short s n ok words r) (demand2 s n ok words r .from-listing 48000);
+          printed readPrints read ∙ read-lines (textOf words) (linesInOrder s) (demand2 s n ok words r .from-listing 48000) (received-short s n ok words r);
     }
 
 -- ---- number 10
@@ -98,6 +104,8 @@ sizes = record {
   listing = λ s room h e. job-number (jobOf s) (sym (listing.enough s room h .0) ∙ e);
   lines-of-words = reading.enough .of-words;
   lines-of-listing = reading.enough .of-listing;
+  identity-in-words = λ i. following.enough i .of-words;
+  identity-in-listing = λ i. following.enough i .of-listing;
   sending-program = send-is;
   reading-program = read-is;
 }

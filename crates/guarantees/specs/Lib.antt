@@ -4,6 +4,7 @@ pub mod Gives
 pub mod Demand2
 pub mod Listed
 pub mod Programs
+pub mod Desk
 pub mod Demand3
 pub mod Card
 pub mod NothingFalse
