@@ -20,9 +20,9 @@
 #include <stddef.h>
 #include <stdint.h>
 
-/* 3.0.0, as 10000 * first + 100 * second + third. The first goes up where a caller has to change or only to be compiled again, as when
+/* 3.1.0, as 10000 * first + 100 * second + third. The first goes up where a caller has to change or only to be compiled again, as when
  * a struct grows; the second where something is added. The archive and the header of one commit belong together. */
-#define SPUGGENOR_VERSION 30000
+#define SPUGGENOR_VERSION 30100
 
 #ifdef __cplusplus
 extern "C" {
@@ -50,15 +50,15 @@ extern "C" {
 /* Why work is declined, and the place that comes with the number. A job's own numbers, 9 the last of them, stand here first: its
  * book's, then a line's in the order of their rank. A malformed book is 19, whatever the job holds. Then the first faulty line decides,
  * and in it the first of 1, 2, 3, 4, 25, then 12, 13, 14 or 18, then 6, 7; but a 49th line is 8 whatever it holds; then 9, then 10. Of a
- * listing the first line that gives 21 or 23, then the first 22, then 10; of words 21, 23, 22, 10. (The programs have one number more,
- * 24.)
+ * listing the first line that gives 21 or 23, then the first 22, then 10; of words 21, 23, 22, 10. An identity to follow is 2 or 3 before
+ * these, whatever it is followed in. (The programs have one number more, 24.)
  *
  * A call that takes a job also answers a position: with number 6 that of the first bad character of the text, counted in characters
  * from 1; 0 with every other number and where nothing is declined. */
 #define CARD_REFUSED_BOOK 19                /* line of the book: the first that is not written as a phrase, or the 101st */
 #define CARD_REFUSED_LINE_FORM 1            /* line: it is not written as a page line */
-#define CARD_REFUSED_IDENTITY_TOO_LARGE 2   /* line: over 1FFFFF */
-#define CARD_REFUSED_IDENTITY_RESERVED 3    /* line: 1EA270 to 1EA277 or 1F3480 to 1F3487 */
+#define CARD_REFUSED_IDENTITY_TOO_LARGE 2   /* line, or 0 for an identity to follow: over 1FFFFF */
+#define CARD_REFUSED_IDENTITY_RESERVED 3    /* line, or 0 for an identity to follow: 1EA270 to 1EA277 or 1F3480 to 1F3487 */
 #define CARD_REFUSED_KIND 4                 /* line: none of 0 to 7, nor 9 with a book */
 #define CARD_REFUSED_PARTIAL_GROUP 25       /* line: kind 6 or 7 has digits that make no whole groups of five */
 #define CARD_REFUSED_TONE_WITH_TEXT 12      /* line: kind 0 to 3 has a text */
@@ -155,6 +155,29 @@ struct card_reading card_read_listing(const uint8_t *listing, size_t listing_len
  * 300 batches may take 30 ms where many words are lost. */
 struct card_reading card_read_words_slowly(const uint32_t *words, size_t words_length, uint8_t *out, size_t out_length);
 struct card_reading card_read_listing_slowly(const uint8_t *listing, size_t listing_length, uint8_t *out, size_t out_length);
+
+/* ---- following one identity, as a desk receiver does: of the lines that reading prints those with the identity, in the same order,
+ * whatever the kind, lines of pages cut short among them. Where the rest is not wanted it takes less time than reading: as long as no
+ * page of the identity is open, only the two words of its frame are looked at in each batch, and the sync words. The words are corrected
+ * by the fast engine. */
+
+struct card_following {
+    size_t place;
+    size_t bytes;       /* how many are written */
+    uint32_t number;
+    uint32_t lines;     /* lines written */
+};
+
+/* The identity's page lines of words, over the front of out. The words are those that card_read_words takes. Number 2, then 3, for the
+ * identity, then 21, 23, 22, then 10 where out is shorter than these lines. CARD_LINES_BYTES suffice. */
+struct card_following card_follow_words(uint32_t identity,
+                                        const uint32_t *words, size_t words_length,
+                                        uint8_t *out, size_t out_length);
+
+/* The same of a listing, its preamble included. */
+struct card_following card_follow_listing(uint32_t identity,
+                                          const uint8_t *listing, size_t listing_length,
+                                          uint8_t *out, size_t out_length);
 
 /* ---- a job word by word. The caller keeps the state, and nothing but card_step writes it until the transmission is over. It holds no
  * pointer, so it may be copied or moved as memory. A state in which another byte was written gets an answer too. It is number 11

@@ -1,9 +1,9 @@
 /* Jobs declined, then one sent whole, with a phrase book, sent again word by word, and read back with some wrong bits; one word corrected
- * by both engines.
+ * by both engines; and the lines of a single pager, as its desk receiver has them.
  *
  * Build and run it in the repository's folder, once `rt staticlib card` has made the archive:
  *     gcc -Wall -Wextra tests/c/example.c -Iinclude target/staticlib/libcard.a -o target/example && target/example
- * It prints the page lines in the order of their slots, and ends with status 0 where all agrees. */
+ * It prints the page lines in the order of their slots, then those of one pager, and ends with status 0 where all agrees. */
 #include "spuggenor.h"
 #include <stdio.h>
 #include <string.h>
@@ -95,5 +95,13 @@ int main(void) {
     printf("%u pages, %u lost, %u orphans\n", read.pages, read.lost, read.orphans);
     printf("%u bits changed in the slots, %u in the syncs\n", read.changed.slots, read.changed.syncs);
     fwrite(lines, 1, read.bytes, stdout);
+
+    /* the desk receiver of pager 000010 */
+    struct card_following followed =
+        card_follow_words(0x000010, words + CARD_PREAMBLE_WORDS, sent.words - CARD_PREAMBLE_WORDS, lines, CARD_LINES_BYTES);
+    if (refused(followed.number, followed.place, 0))
+        return 1;
+    printf("%u for 000010\n", followed.lines);
+    fwrite(lines, 1, followed.bytes, stdout);
     return 0;
 }

@@ -15,6 +15,10 @@ CARD_ASSERT(sizeof(struct card_word) == 12 && offsetof(struct card_word, changed
 CARD_ASSERT(sizeof(struct card_changes) == 8 && offsetof(struct card_changes, syncs) == 4);
 CARD_ASSERT(sizeof(struct card_reading) == 40 && offsetof(struct card_reading, changed) == 32);
 
+/* the answer that counts one identity's lines */
+CARD_ASSERT(sizeof(struct card_following) == 24 && offsetof(struct card_following, bytes) == 8);
+CARD_ASSERT(offsetof(struct card_following, number) == 16 && offsetof(struct card_following, lines) == 20);
+
 /* the answers that have a position */
 CARD_ASSERT(sizeof(struct card_report) == 32 && offsetof(struct card_report, position) == 8 && offsetof(struct card_report, number) == 16);
 CARD_ASSERT(sizeof(struct card_bytes) == 32 && offsetof(struct card_bytes, position) == 8 && offsetof(struct card_bytes, number) == 24);
@@ -166,6 +170,39 @@ static void changed_bits(const struct engine *by) {
     EXPECT(d.place == 1 && d.number == 22 && ALL_ZERO(d));
 }
 
+/* what every field holds where an identity is followed, and how much of out is written: 28 bytes from 400 on are lent at most */
+#define FOLLOWED(call, p, n, b, l) do { \
+        memset(out + 400, 77, 29); \
+        struct card_following f = call; \
+        EXPECT(f.place == (p) && f.number == (n) && f.bytes == (b) && f.lines == (l)); \
+        EXPECT(out[400] == ((b) == 0 ? 77 : '0') && out[400 + (b)] == 77 && out[428] == 77); } while (0)
+
+/* two pages for 00000A, in one batch among others: a tone, and one cut by a lost word; then the one page of a listing */
+static void following(void) {
+    sending();
+    for (int i = 19; i < 35; i++)
+        words[i] = 0x7A89C197;
+    words[19] = 0x00000ED3; words[22] = 0x000026EC; words[23] = 0x000026EC; words[24] = 0x000026EC ^ 0x80000001;
+    words[25] = 0xC2199DEA; words[26] = 7; words[27] = 0x000026EC;
+    const uint32_t *batch = words + CARD_PREAMBLE_WORDS;
+    FOLLOWED(card_follow_words(0x200000, batch, 17, out + 400, 28), 0, 2, 0, 0);
+    FOLLOWED(card_follow_words(0x1EA270, batch, 17, out + 400, 28), 0, 3, 0, 0);
+    FOLLOWED(card_follow_words(0x00000A, batch, 16, out + 400, 28), 0, 21, 0, 0);
+    FOLLOWED(card_follow_words(0x00000A, words, 17 * 301, out + 400, 28), 0, 23, 0, 0);
+    FOLLOWED(card_follow_words(0x00000A, batch + 1, 17, out + 400, 28), 1, 22, 0, 0);
+    FOLLOWED(card_follow_words(0x00000A, batch, 17, out + 400, 23), 0, 10, 0, 0);
+    FOLLOWED(card_follow_words(0x000012, batch, 17, out + 400, 0), 0, 0, 0, 0);
+    FOLLOWED(card_follow_words(0x00000A, batch, 17, out + 400, 28), 0, 0, 24, 2);
+    EXPECT(memcmp(out + 400, "00000A 0\n00000A 4 3132-\n", 24) == 0);
+    FOLLOWED(card_follow_listing(0x3F3480, out, 315, out + 400, 28), 0, 2, 0, 0);
+    FOLLOWED(card_follow_listing(0x1F3480, out, 315, out + 400, 28), 0, 3, 0, 0);
+    FOLLOWED(card_follow_listing(0x000009, out, 314, out + 400, 28), 18, 21, 0, 0);
+    FOLLOWED(card_follow_listing(0x000009, out, 315, out + 400, 13), 0, 10, 0, 0);
+    FOLLOWED(card_follow_listing(0x000001, out, 315, out + 400, 0), 0, 0, 0, 0);
+    FOLLOWED(card_follow_listing(0x000009, out, 315, out + 400, 28), 0, 0, 14, 1);
+    EXPECT(memcmp(out + 400, job, 14) == 0);
+}
+
 int main(void) {
     start();
     with_book();
@@ -177,5 +214,6 @@ int main(void) {
         reading(&engines[i]);
         changed_bits(&engines[i]);
     }
+    following();
     return wrong;
 }

@@ -1,5 +1,5 @@
 /* The header's sizes and numbers against the archive: the largest jobs and listings in buffers that just suffice and in buffers that
- * are one too short, work that is declined by each number, and null with length 0.
+ * are one too short, work that is declined by each number, identities to follow on both sides of each limit, and null with length 0.
  *
  *     gcc -Wall -Wextra tests/c/limits.c -Iinclude target/staticlib/libcard.a -o target/limits && target/limits
  * It prints each difference, and ends with status 0 where there is none.
@@ -117,6 +117,26 @@ static void longest_reading(const struct engine *by) {
     EXPECT(by->read_listing(listing, CARD_LISTING_BYTES, lines, CARD_LINES_BYTES - 1).number == CARD_REFUSED_BUFFER_TOO_SHORT);
     d = by->read_listing(listing, CARD_LISTING_BYTES - 1, lines, CARD_LINES_BYTES);
     EXPECT(d.number == CARD_REFUSED_BATCHES_FORM && d.place == 9 + 9 * 300);
+}
+
+/* the same of the identity that it all belongs to; another has no line in it, so that no buffer is too short */
+static void longest_following(void) {
+    const uint32_t *batches = words + CARD_PREAMBLE_WORDS;
+    size_t count = CARD_WORDS - CARD_PREAMBLE_WORDS;
+    one_long_page();
+    list_words();
+    struct card_following f = card_follow_words(0, batches, count, lines, CARD_LINES_BYTES);
+    EXPECT(f.number == 0 && f.lines == 1 && f.bytes == CARD_LINES_BYTES && lines[CARD_LINES_BYTES - 1] == '\n' && lines[CARD_LINES_BYTES] == 0);
+    EXPECT(card_follow_words(0, batches, count, lines, CARD_LINES_BYTES - 1).number == CARD_REFUSED_BUFFER_TOO_SHORT);
+    f = card_follow_listing(0, listing, CARD_LISTING_BYTES, lines, CARD_LINES_BYTES);
+    EXPECT(f.number == 0 && f.lines == 1 && f.bytes == CARD_LINES_BYTES && lines[CARD_LINES_BYTES] == 0);
+    EXPECT(card_follow_listing(0, listing, CARD_LISTING_BYTES, lines, CARD_LINES_BYTES - 1).number == CARD_REFUSED_BUFFER_TOO_SHORT);
+    f = card_follow_listing(0, listing, CARD_LISTING_BYTES - 1, lines, CARD_LINES_BYTES);
+    EXPECT(f.number == CARD_REFUSED_BATCHES_FORM && f.place == 9 + 9 * 300);
+    f = card_follow_words(8, batches, count, NULL, 0);
+    EXPECT(f.number == 0 && f.bytes == 0 && f.lines == 0);
+    f = card_follow_listing(1, listing, CARD_LISTING_BYTES, NULL, 0);
+    EXPECT(f.number == 0 && f.bytes == 0 && f.lines == 0);
 }
 
 /* each call that takes a job with this book answers this number, place and position */
@@ -333,6 +353,53 @@ static void declined_words(const struct engine *by) {
     EXPECT(card_step(&state).number == CARD_REFUSED_STATE);
 }
 
+/* an identity to follow, and the number that it gets whatever it is followed in, 0 where it is taken */
+struct identity {
+    uint32_t identity, number;
+};
+static const struct identity identities[] = {
+    {0x000000, 0},
+    {0x1EA26F, 0},
+    {0x1EA270, CARD_REFUSED_IDENTITY_RESERVED},
+    {0x1EA277, CARD_REFUSED_IDENTITY_RESERVED},
+    {0x1EA278, 0},
+    {0x1F347F, 0},
+    {0x1F3480, CARD_REFUSED_IDENTITY_RESERVED},
+    {0x1F3487, CARD_REFUSED_IDENTITY_RESERVED},
+    {0x1F3488, 0},
+    {0x1FFFFF, 0},
+    {0x200000, CARD_REFUSED_IDENTITY_TOO_LARGE},
+    {0x3EA270, CARD_REFUSED_IDENTITY_TOO_LARGE},
+    {0x3F3480, CARD_REFUSED_IDENTITY_TOO_LARGE},
+    {0xFFFFFFFF, CARD_REFUSED_IDENTITY_TOO_LARGE},
+};
+
+/* an identity's own number and 0, or else the number and the place of what it is followed in; null with length 0 among it */
+static void followed_in(const struct identity *one) {
+    uint32_t id = one->identity, own = one->number;
+    const uint32_t *batches = words + CARD_PREAMBLE_WORDS;
+    struct card_following f = card_follow_words(id, NULL, 0, NULL, 0);
+    EXPECT(f.number == (own ? own : CARD_REFUSED_BATCHES_FORM) && f.place == 0);
+    f = card_follow_words(id, words, 17 * 301, lines, CARD_LINES_BYTES);
+    EXPECT(f.number == (own ? own : CARD_REFUSED_TOO_MANY_BATCHES) && f.place == 0);
+    f = card_follow_words(id, batches + 1, 17, NULL, 0);
+    EXPECT(f.number == (own ? own : CARD_REFUSED_NO_SYNC) && f.place == (own ? 0 : 1));
+    f = card_follow_words(id, batches, 17 * 300, NULL, 0);
+    EXPECT(f.number == (own ? own : id == 0 ? CARD_REFUSED_BUFFER_TOO_SHORT : 0) && f.place == 0);
+    f = card_follow_listing(id, NULL, 0, NULL, 0);
+    EXPECT(f.number == (own ? own : CARD_REFUSED_BATCHES_FORM) && f.place == (own ? 0 : 1));
+    f = card_follow_listing(id, listing, CARD_LISTING_BYTES, NULL, 0);
+    EXPECT(f.number == (own ? own : id == 0 ? CARD_REFUSED_BUFFER_TOO_SHORT : 0) && f.place == 0);
+    EXPECT(f.bytes == 0 && f.lines == 0);
+}
+
+static void followed_identities(void) {
+    one_long_page();
+    list_words();
+    for (size_t i = 0; i < sizeof identities / sizeof *identities; i++)
+        followed_in(&identities[i]);
+}
+
 /* null with length 0 in each place: the same answers as a pointer to no elements gets */
 static void null_jobs(void) {
     const uint8_t *text = (const uint8_t *)"000009 4 3132\n";
@@ -387,5 +454,7 @@ int main(void) {
         declined_words(&engines[i]);
         null_readings(&engines[i]);
     }
+    longest_following();
+    followed_identities();
     return wrong;
 }

@@ -1,13 +1,14 @@
 //! The library and the independent implementation on the same work, in one run, as a Markdown table; then the library's slow engine
-//! and its fast one.
+//! and its fast one, and its following of one identity and its full reading.
 //!
 //!     bench [RUNS [MILLISECONDS]]
 //!
 //! Each row is timed RUNS times for at least MILLISECONDS each, the two in turn. The ratio is the first's time over the second's:
-//! the median of the runs, the least and the greatest. Before a row is timed, both must give the same answer. Lent buffers are made
-//! once, have the sizes that the header names, and aren't cleared before a call.
+//! the median of the runs, the least and the greatest. Before a row is timed, both must give the same answer, but for following beside
+//! reading. Lent buffers are made once, have the sizes that the header names, and aren't cleared before a call.
 
 mod clock;
+mod follow;
 mod measure;
 
 use generate::words::Damage;
@@ -39,10 +40,17 @@ fn main() {
     bench.correcting();
     bench.sending();
     bench.reading();
+    let cases = follow::cases();
+    bench.following(&cases);
     println!("\nThe library's slow engine: ratio of its time to that of the fast one, measured in the same way.\n");
     print_head("Slow", "Fast");
     bench.correcting_slowly();
     bench.reading_slowly();
+    println!(
+        "\nThe library's following of one identity: ratio of its time to that of the full reading, measured in the same way.\n"
+    );
+    print_head("Following", "Reading");
+    bench.following_and_reading(&cases);
 }
 
 struct Bench {
@@ -205,14 +213,8 @@ impl Bench {
         );
     }
 
-    /// The batches of the largest job.
-    fn largest(&mut self) -> Vec<u32> {
-        let maximal = jobs::maximal(&mut self.random, &[3]);
-        Accepted::new(&maximal, NO_BOOK).expect("good job").words().split_off(18)
-    }
-
     fn reading(&mut self) {
-        let batches = self.largest();
+        let batches = largest(&mut self.random);
         for (name, damage) in [CLEAN, LIGHT, ("with lost words", Damage::Spots)] {
             let mut received = batches.clone();
             words::damage(&mut self.random, &mut received, damage);
@@ -230,7 +232,7 @@ impl Bench {
     }
 
     fn reading_slowly(&mut self) {
-        let batches = self.largest();
+        let batches = largest(&mut self.random);
         for (name, damage) in [CLEAN, LIGHT] {
             let mut received = batches.clone();
             words::damage(&mut self.random, &mut received, damage);
@@ -278,6 +280,12 @@ impl Bench {
             &mut || _ = black_box(reader::read_words(black_box(words), &mut bytes)),
         );
     }
+}
+
+/// The batches of the largest job.
+fn largest(random: &mut Random) -> Vec<u32> {
+    let maximal = jobs::maximal(random, &[3]);
+    Accepted::new(&maximal, NO_BOOK).expect("good job").words().split_off(18)
 }
 
 fn same(library: card::Reading, independent: Result<reader::Reading, Refusal>) {

@@ -60,6 +60,16 @@ pub struct Reading {
     pub changed: Changes,
 }
 
+/// `struct card_following`.
+#[repr(C)]
+#[derive(Clone, Copy, Debug, PartialEq, Eq)]
+pub struct Following {
+    pub place: usize,
+    pub bytes: usize,
+    pub number: u32,
+    pub lines: u32,
+}
+
 /// Sizes that the header promises to suffice.
 pub const PAGES: usize = 48;
 pub const WORDS: usize = 5118;
@@ -84,6 +94,8 @@ extern "C" {
     fn card_read_words_slowly(words: *const u32, words_length: usize, out: *mut u8, out_length: usize) -> Reading;
     fn card_read_listing(listing: *const u8, listing_length: usize, out: *mut u8, out_length: usize) -> Reading;
     fn card_read_listing_slowly(listing: *const u8, listing_length: usize, out: *mut u8, out_length: usize) -> Reading;
+    fn card_follow_words(identity: u32, words: *const u32, words_length: usize, out: *mut u8, out_length: usize) -> Following;
+    fn card_follow_listing(identity: u32, listing: *const u8, listing_length: usize, out: *mut u8, out_length: usize) -> Following;
 }
 
 pub fn correct(word: u32) -> Word {
@@ -135,4 +147,14 @@ pub fn read_listing(listing: &[u8], out: &mut [u8]) -> Reading {
 pub fn read_listing_slowly(listing: &[u8], out: &mut [u8]) -> Reading {
     // SAFETY: as in send.
     unsafe { card_read_listing_slowly(listing.as_ptr(), listing.len(), out.as_mut_ptr(), out.len()) }
+}
+
+pub fn follow_words(identity: u32, words: &[u32], out: &mut [u8]) -> Following {
+    // SAFETY: as in send.
+    unsafe { card_follow_words(identity, words.as_ptr(), words.len(), out.as_mut_ptr(), out.len()) }
+}
+
+pub fn follow_listing(identity: u32, listing: &[u8], out: &mut [u8]) -> Following {
+    // SAFETY: as in send.
+    unsafe { card_follow_listing(identity, listing.as_ptr(), listing.len(), out.as_mut_ptr(), out.len()) }
 }

@@ -2,6 +2,7 @@
 
 pub mod books;
 pub mod bytes;
+pub mod followed;
 pub mod jobs;
 pub mod listings;
 pub mod random;

@@ -213,11 +213,15 @@ pub fn slice_limits() -> Vec<Vec<u32>> {
     slices
 }
 
+/// The codewords with a reserved value, idle and sync among them.
+pub(crate) fn reserved() -> impl Iterator<Item = u32> {
+    RESERVED.into_iter().flat_map(|upper| (0..4).map(move |function| encode(upper << 2 | function)))
+}
+
 /// Single batches in which a sync, an address, a message word or a word with a reserved value, idle among them, has one or two wrong
 /// bits, in every way. In a slot it stands behind a page's message and behind none.
 pub fn mended() -> Vec<Vec<u32>> {
-    let reserved = RESERVED.iter().flat_map(|upper| (0..4).map(move |function| encode(upper << 2 | function)));
-    let words: Vec<u32> = reserved.chain([address(9, 1), message(0x84333)]).collect();
+    let words: Vec<u32> = reserved().chain([address(9, 1), message(0x84333)]).collect();
     let mut slices = vec![];
     for i in 0..32 {
         for j in 0..=i {

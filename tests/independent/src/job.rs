@@ -75,11 +75,8 @@ impl Page {
         let Some((identity, kind, text)) = split(line) else {
             return Err(fault(1));
         };
-        if identity > 0x1F_FFFF {
-            return Err(fault(2));
-        }
-        if codeword::is_reserved(identity >> 3) {
-            return Err(fault(3));
+        if let Some(number) = identity_fault(identity) {
+            return Err(fault(number));
         }
         if kind == PHRASE && !phrases.is_empty() {
             let phrase = phrase_number(&text).and_then(|number| phrases.get(number)).ok_or(fault(18))?;
@@ -117,6 +114,14 @@ impl Page {
         }
         out.push(b'\n');
     }
+}
+
+/// What is wrong with an identity, as a number.
+pub(crate) fn identity_fault(identity: u32) -> Option<u32> {
+    if identity > 0x1F_FFFF {
+        return Some(2);
+    }
+    codeword::is_reserved(identity >> 3).then_some(3)
 }
 
 /// What is wrong with the length of a kind's text, as a number.

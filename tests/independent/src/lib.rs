@@ -3,6 +3,7 @@
 
 pub mod book;
 pub mod codeword;
+pub mod follow;
 pub mod job;
 pub mod judge;
 pub mod listing;

@@ -1,10 +1,10 @@
-//! The sending and the reading program: what each prints for its standard input, and the sending program for a phrase book too.
+//! The sending, the reading and the following program: what each prints for its standard input, the sending program for a phrase book
+//! too, and the following program for an identity.
 
 use crate::book::NO_BOOK;
 use crate::listing::{self, BYTES_A_WORD};
-use crate::reader;
 use crate::send::Accepted;
-use crate::Refusal;
+use crate::{follow, number, reader, Refusal};
 use std::ffi::OsString;
 use std::io::{self, Read, Write};
 
@@ -23,6 +23,11 @@ pub fn sending(input: &[u8], book: &[u8]) -> Vec<u8> {
 /// What the reading program prints for a listing.
 pub fn reading(input: &[u8]) -> Vec<u8> {
     answer(input, |listing| Ok(reader::log_of_listing(listing)?.lines))
+}
+
+/// What the following program prints for an identity and a listing.
+pub fn following(identity: u32, input: &[u8]) -> Vec<u8> {
+    answer(input, |listing| Ok(follow::lines_of_listing(identity, listing)?.lines))
 }
 
 fn answer(input: &[u8], work: impl FnOnce(&[u8]) -> Result<Vec<u8>, Refusal>) -> Vec<u8> {
@@ -47,11 +52,30 @@ pub fn named_book(arguments: &[OsString]) -> io::Result<Vec<u8>> {
     }
 }
 
+/// What the following program says on standard error where its arguments name no identity.
+pub const FOLLOWING_USAGE: &str = "page_follow: usage: page_follow IDENTITY\n";
+
+/// The identity that the following program's arguments name: a single argument, of six upper-case hexadecimal digits.
+pub fn named_identity(arguments: &[OsString]) -> Option<u32> {
+    match arguments {
+        [digits] if digits.len() == 6 => number(digits.as_encoded_bytes()),
+        _ => None,
+    }
+}
+
 /// Prints for standard input what a program prints.
 pub fn run(program: impl Fn(&[u8]) -> Vec<u8>) -> io::Result<()> {
     let mut input = Vec::new();
     io::stdin().take(MOST_INPUT as u64 + 1).read_to_end(&mut input)?;
     io::stdout().write_all(&program(&input))
+}
+
+/// The same of the following program; without an identity it reads nothing and prints nothing.
+pub fn run_following(identity: Option<u32>, program: impl Fn(u32, &[u8]) -> Vec<u8>) -> io::Result<()> {
+    match identity {
+        Some(identity) => run(|listing| program(identity, listing)),
+        None => io::stderr().write_all(FOLLOWING_USAGE.as_bytes()),
+    }
 }
 
 #[cfg(test)]
@@ -100,12 +124,44 @@ mod tests {
         let listing = sending(b"000009 0\n", NO_BOOK);
         let bad_sync = String::from_utf8(listing).unwrap().replace("7CD215D8", "7CD215DF");
         assert_eq!(reading(bad_sync.as_bytes()), b"refused 22 place 1\n");
+        assert_eq!(following(9, bad_sync.as_bytes()), b"refused 22 place 1\n");
+        assert_eq!(following(0x1F_FFFF, b""), b"refused 21 place 1\n");
+        assert_eq!(following(0x20_0000, b""), b"refused 2 place 0\n");
+        assert_eq!(following(0x1F_3487, bad_sync.as_bytes()), b"refused 3 place 0\n");
+    }
+
+    #[test]
+    fn an_identity_is_followed() {
+        let listing = sending(b"000009 4 3132\n00000F 1\n000009 2\n", NO_BOOK);
+        assert_eq!(following(9, &listing), b"000009 4 3132\n000009 2\n");
+        assert_eq!(following(0xF, &listing), b"00000F 1\n");
+        assert_eq!(following(1, &listing), b"");
+    }
+
+    #[test]
+    fn arguments_that_name_an_identity() {
+        let named = |arguments: &[&str]| named_identity(&arguments.iter().map(OsString::from).collect::<Vec<_>>());
+        assert_eq!(named(&["000009"]), Some(9));
+        assert_eq!(named(&["1FFFFF"]), Some(0x1F_FFFF));
+        assert_eq!(named(&["FFFFFF"]), Some(0xFF_FFFF));
+        for none in ["", "9", "00009", "0000009", "00000a", "00000G", "+00009", "0x0009", " 00009", "000009\n", "0000\u{e9}"] {
+            assert_eq!(named(&[none]), None, "{none:?}");
+        }
+        assert_eq!(named(&[]), None);
+        assert_eq!(named(&["000009", "000009"]), None);
+        assert_eq!(named(&["000009", ""]), None);
     }
 
     #[test]
     fn long_inputs() {
         let most = [b'x'; MOST_INPUT + 1];
-        let programs: [fn(&[u8]) -> Vec<u8>; 3] = [|job| sending(job, NO_BOOK), |job| sending(job, b"4"), reading];
+        let programs: [fn(&[u8]) -> Vec<u8>; 5] = [
+            |job| sending(job, NO_BOOK),
+            |job| sending(job, b"4"),
+            reading,
+            |listing| following(9, listing),
+            |listing| following(0x20_0000, listing),
+        ];
         for program in programs {
             assert_ne!(program(&most[1..]), b"refused 24 place 0\n");
             assert_eq!(program(&most), b"refused 24 place 0\n");

@@ -35,9 +35,44 @@ pub struct Reading {
 }
 
 /// The page that is open; its groups of message bits are kept beside it, so that their memory is used again.
-struct Open {
-    identity: u32,
-    function: u32,
+pub struct Open {
+    pub identity: u32,
+    pub function: u32,
+}
+
+impl Open {
+    /// Prints the page's line. The text is memory to work in, and is empty before and afterwards.
+    pub fn print(&self, groups: &[u32], cut: bool, text: &mut Vec<u8>, lines: &mut Vec<u8>) {
+        if groups.is_empty() {
+            print_head(self.identity, self.function, lines);
+        } else {
+            self.print_message(groups, text, lines);
+            text.clear();
+        }
+        if cut {
+            lines.push(b'-');
+        }
+        lines.push(b'\n');
+    }
+
+    fn print_message(&self, groups: &[u32], text: &mut Vec<u8>, lines: &mut Vec<u8>) {
+        match self.function {
+            0 => {
+                print_head(self.identity, 4, lines);
+                text::unpack_numeric(groups, text);
+                print_pairs(text, lines);
+            }
+            3 => {
+                print_head(self.identity, 5, lines);
+                text::unpack_alphanumeric(groups, text);
+                print_pairs(text, lines);
+            }
+            function => {
+                print_head(self.identity, function + 5, lines);
+                print_groups(groups, lines);
+            }
+        }
+    }
 }
 
 #[derive(Default)]
@@ -72,33 +107,8 @@ impl Reader {
 
     fn close(&mut self, cut: bool) {
         let Some(page) = self.open.take() else { return };
-        let lines = &mut self.log.lines;
-        if self.groups.is_empty() {
-            print_head(page.identity, page.function, lines);
-        } else {
-            match page.function {
-                0 => {
-                    print_head(page.identity, 4, lines);
-                    text::unpack_numeric(&self.groups, &mut self.text);
-                    print_pairs(&self.text, lines);
-                }
-                3 => {
-                    print_head(page.identity, 5, lines);
-                    text::unpack_alphanumeric(&self.groups, &mut self.text);
-                    print_pairs(&self.text, lines);
-                }
-                function => {
-                    print_head(page.identity, function + 5, lines);
-                    print_groups(&self.groups, lines);
-                }
-            }
-            self.text.clear();
-            self.groups.clear();
-        }
-        if cut {
-            lines.push(b'-');
-        }
-        lines.push(b'\n');
+        page.print(&self.groups, cut, &mut self.text, &mut self.log.lines);
+        self.groups.clear();
         self.log.pages += 1;
     }
 }
@@ -113,14 +123,10 @@ fn print_groups(groups: &[u32], lines: &mut Vec<u8>) {
     }
 }
 
-/// Reads batches that are complete, at least one and at most 300.
-fn read(words: &[u32]) -> Result<Log, Refusal> {
-    let batches = words.chunks_exact(BATCH_WORDS);
-    if let Some(bad) = batches.clone().position(|batch| codeword::correct(batch[0]) != Some(codeword::SYNC)) {
-        return Err(Refusal::new(22, bad + 1));
-    }
+/// Reads batches that are complete and begin with sync, at least one and at most 300.
+fn read(words: &[u32]) -> Log {
     let mut reader = Reader::default();
-    for batch in batches {
+    for batch in words.chunks_exact(BATCH_WORDS) {
         reader.log.changed.syncs += codeword::changed(batch[0], codeword::SYNC);
         for (frame, pair) in batch[1..].chunks_exact(2).enumerate() {
             reader.word(pair[0], frame as u32);
@@ -128,23 +134,42 @@ fn read(words: &[u32]) -> Result<Log, Refusal> {
         }
     }
     reader.close(false);
-    Ok(reader.log)
+    reader.log
 }
 
-/// The page lines of a slice of words: batches only.
-pub fn log_of_words(words: &[u32]) -> Result<Log, Refusal> {
+/// Declines complete batches of which one doesn't begin with sync.
+fn synced<W: AsRef<[u32]>>(words: W) -> Result<W, Refusal> {
+    let mut batches = words.as_ref().chunks_exact(BATCH_WORDS);
+    match batches.position(|batch| codeword::correct(batch[0]) != Some(codeword::SYNC)) {
+        Some(bad) => Err(Refusal::new(22, bad + 1)),
+        None => Ok(words),
+    }
+}
+
+/// A slice of words, if it is one that can be read: batches only.
+pub(crate) fn batches_of_words(words: &[u32]) -> Result<&[u32], Refusal> {
     if words.is_empty() || words.len() % BATCH_WORDS != 0 {
         return Err(Refusal::new(21, 0));
     }
     if words.len() / BATCH_WORDS > MOST_BATCHES {
         return Err(Refusal::new(23, 0));
     }
-    read(words)
+    synced(words)
+}
+
+/// The words of a listing's batches, if it is one that can be read.
+pub(crate) fn batches_of_listing(listing: &[u8]) -> Result<Vec<u32>, Refusal> {
+    synced(listing::read(listing)?)
+}
+
+/// The page lines of a slice of words: batches only.
+pub fn log_of_words(words: &[u32]) -> Result<Log, Refusal> {
+    Ok(read(batches_of_words(words)?))
 }
 
 /// The page lines of a listing.
 pub fn log_of_listing(listing: &[u8]) -> Result<Log, Refusal> {
-    read(&listing::read(listing)?)
+    Ok(read(&batches_of_listing(listing)?))
 }
 
 fn hand_over(log: Log, out: &mut [u8]) -> Result<Reading, Refusal> {

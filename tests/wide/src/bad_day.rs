@@ -3,9 +3,10 @@
 
 use crate::compare::{corrects, shown, shown_job, Comparison, Difference, Outcome};
 use crate::engine::Engine;
+use crate::follow::Received;
 use crate::lent::Unit;
 use generate::words::{damage, Damage, BATCH};
-use generate::{listings, Random};
+use generate::{followed, listings, Random};
 use independent::book::NO_BOOK;
 use independent::judge::{self, Sent};
 use independent::placement::PREAMBLE_WORDS;
@@ -77,8 +78,8 @@ impl<'a> Transmission<'a> {
         Ok(())
     }
 
-    /// What the library reads of the received words must be as R-9 has it. `how` says how they were read.
-    fn judged(&self, received: &[u32], how: &str, read: impl FnOnce(&mut [u8]) -> card::Reading) -> Outcome {
+    /// What the library reads of the received words, which must be as R-9 has it. `how` says how they were read.
+    fn judged(&self, received: &[u32], how: &str, read: impl FnOnce(&mut [u8]) -> card::Reading) -> Result<Log, Difference> {
         // no line is longer than its page's own and a `-`
         let mut out = vec![0; self.pages.iter().map(|page| page.line.len() + 1).sum()];
         let reading = read(&mut out);
@@ -88,10 +89,13 @@ impl<'a> Transmission<'a> {
         out.truncate(reading.bytes);
         let changed = Changes { slots: reading.changed.slots, syncs: reading.changed.syncs };
         let log = Log { lines: out, pages: reading.pages, lost: reading.lost, orphans: reading.orphans, changed };
-        judge::judge(&self.pages, &judge::flips(&self.batches, received), &log).map_err(|broken| {
-            let what = format!("{how}: broken: {broken:?}\n{reading:?}\nlines:\n{}", shown(&log.lines));
-            self.wrong(received, &what)
-        })
+        match judge::judge(&self.pages, &judge::flips(&self.batches, received), &log) {
+            Ok(()) => Ok(log),
+            Err(broken) => {
+                let what = format!("{how}: broken: {broken:?}\n{reading:?}\nlines:\n{}", shown(&log.lines));
+                Err(self.wrong(received, &what))
+            }
+        }
     }
 
     fn wrong(&self, received: &[u32], what: &str) -> Difference {
@@ -139,17 +143,22 @@ impl Comparison {
         self.damaged(transmission, &received)
     }
 
-    /// The damaged words one by one, together, and as a listing behind any preamble.
+    /// The damaged words one by one, together, and as a listing behind any preamble. In what the library reads, with either engine, an
+    /// identity is followed: in the words one of the job's, in the listing perhaps another.
     fn damaged(&mut self, transmission: &Transmission, received: &[u32]) -> Outcome {
         let listing = listings::of_words(&u32::rubbish(&mut self.random, PREAMBLE_WORDS), received);
+        let identities = followed::identities(&mut self.random, transmission.job);
         for engine in self.engines(SLOW_DAYS) {
             let how = engine.how;
             transmission.corrected(received, engine)?;
             self.count_by("bad day, each word", how, 0);
-            transmission.judged(received, &format!("words{how}"), |out| (engine.read_words)(received, out))?;
+            let log = transmission.judged(received, &format!("words{how}"), |out| (engine.read_words)(received, out))?;
             self.count_by("bad day, words", how, 0);
-            transmission.judged(received, &format!("listing{how}"), |out| (engine.read_listing)(&listing, out))?;
+            self.follow_identity(Received::Words(received), &Ok(log), identities[0])?;
+            let log = transmission.judged(received, &format!("listing{how}"), |out| (engine.read_listing)(&listing, out))?;
             self.count_by("bad day, listing", how, 0);
+            let identity = self.random.pick(&identities);
+            self.follow_identity(Received::Listing(&listing), &Ok(log), identity)?;
         }
         Ok(())
     }

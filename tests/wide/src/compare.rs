@@ -1,6 +1,7 @@
 //! One input to the library and to the independent implementation: both must give the same answer and leave the same buffers.
 
 use crate::engine::{engines, Engine};
+use crate::follow::Received;
 use crate::lent::Lent;
 use crate::states::Kept;
 use card::steps::{self, Step};
@@ -121,28 +122,30 @@ impl Comparison {
         Ok(())
     }
 
-    /// Reads a slice of words, with buffers of several lengths.
+    /// Reads a slice of words, with buffers of several lengths, and follows some identities in it.
     pub fn words(&mut self, words: &[u32]) -> Outcome {
-        let exact = reader::log_of_words(words).map_or_else(|_| self.random.below(100), |log| log.lines.len());
+        let log = reader::log_of_words(words);
+        let exact = log.as_ref().map_or_else(|_| self.random.below(100), |log| log.lines.len());
         let other = buffer_length(&mut self.random, exact);
         for length in [exact, other] {
             let input = || format!("out {length}, words:\n{}", shown_words(words));
             let read = |engine: &Engine, out: &mut [u8]| (engine.read_words)(words, out);
             self.read("read words", words.len(), length, input, |out| reader::read_words(words, out), read)?;
         }
-        Ok(())
+        self.follow_some(Received::Words(words), &log)
     }
 
-    /// Reads a listing, with buffers of several lengths.
+    /// Reads a listing, with buffers of several lengths, and follows some identities in it.
     pub fn listing(&mut self, listing: &[u8]) -> Outcome {
-        let exact = reader::log_of_listing(listing).map_or_else(|_| self.random.below(100), |log| log.lines.len());
+        let log = reader::log_of_listing(listing);
+        let exact = log.as_ref().map_or_else(|_| self.random.below(100), |log| log.lines.len());
         let other = buffer_length(&mut self.random, exact);
         for length in [exact, other] {
             let input = || format!("out {length}, listing:\n{}", shown(listing));
             let read = |engine: &Engine, out: &mut [u8]| (engine.read_listing)(listing, out);
             self.read("read listing", listing.len() / BYTES_A_WORD, length, input, |out| reader::read_listing(listing, out), read)?;
         }
-        Ok(())
+        self.follow_some(Received::Listing(listing), &log)
     }
 
     /// Reads so many words into a buffer of the given length.
@@ -273,7 +276,7 @@ pub fn differs(what: &str, got: impl std::fmt::Debug, expected: impl std::fmt::D
     Err(Difference(format!("{what}: got {got:?}\nexpected {expected:?}\n{input}")))
 }
 
-fn same_buffer<T: crate::lent::Unit>(what: &str, got: &Lent<T>, expected: &Lent<T>, input: impl Fn() -> String) -> Outcome {
+pub fn same_buffer<T: crate::lent::Unit>(what: &str, got: &Lent<T>, expected: &Lent<T>, input: impl Fn() -> String) -> Outcome {
     match got.difference(expected) {
         Some(difference) => Err(Difference(format!("{what}: the buffer {difference}\n{}", input()))),
         None => Ok(()),
@@ -293,7 +296,7 @@ pub fn shown_job(job: &[u8], book: &[u8]) -> String {
     }
 }
 
-fn shown_words(words: &[u32]) -> String {
+pub fn shown_words(words: &[u32]) -> String {
     let lines: Vec<String> = words.chunks(17).map(|batch| batch.iter().map(|word| format!("{word:08X} ")).collect()).collect();
     lines.join("\n")
 }

@@ -1,18 +1,21 @@
 //! The programs, run as they are: what each prints for an input must be what the independent implementation says.
 
 use crate::compare::{shown, Comparison, Difference, Outcome};
-use generate::{books, jobs, listings, Random};
+use generate::{books, followed, jobs, listings, Random};
 use independent::book::NO_BOOK;
-use independent::program;
+use independent::{program, reader};
+use std::ffi::{OsStr, OsString};
 use std::io::Write;
+use std::os::unix::ffi::OsStringExt;
 use std::path::{Path, PathBuf};
-use std::process::{Command, Stdio};
+use std::process::{Command, Output, Stdio};
 
-/// Paths of the sending and of the reading program, and perhaps of the reading program on the slow engine.
+/// Paths of the sending and of the reading program, and perhaps of the reading program on the slow engine and of the following program.
 pub struct Programs {
     sending: String,
     reading: String,
     slow_reading: Option<String>,
+    following: Option<String>,
     /// The file that phrase books are written to.
     book: PathBuf,
 }
@@ -25,16 +28,16 @@ impl Drop for Programs {
 }
 
 impl Programs {
-    /// No programs, or two or three.
+    /// No programs, or two to four.
     pub fn named(paths: &[String]) -> Result<Option<Self>, ()> {
-        match paths {
-            [] => Ok(None),
-            [sending, reading, slow @ ..] if slow.len() < 2 => {
-                let book = std::env::temp_dir().join(format!("wide-{}.book", std::process::id()));
-                Ok(Some(Programs { sending: sending.clone(), reading: reading.clone(), slow_reading: slow.first().cloned(), book }))
-            }
-            _ => Err(()),
-        }
+        let (sending, reading, others) = match paths {
+            [] => return Ok(None),
+            [sending, reading, others @ ..] if others.len() <= 2 => (sending.clone(), reading.clone(), others),
+            _ => return Err(()),
+        };
+        let (slow_reading, following) = (others.first().cloned(), others.get(1).cloned());
+        let book = std::env::temp_dir().join(format!("wide-{}.book", std::process::id()));
+        Ok(Some(Programs { sending, reading, slow_reading, following, book }))
     }
 
     /// Inputs around the most that is read, and small ones; the same in every run.
@@ -65,7 +68,8 @@ impl Programs {
         let (job, book) = jobs::maximal_phrases(&mut random, &[7]);
         self.send(comparison, &job, &book)?;
         let longest = generate::words::one_long_page(&mut random, 300);
-        self.read(comparison, &listings::listing(36, 0, &longest))
+        self.read(comparison, &listings::listing(36, 0, &longest))?;
+        self.follow_limits(comparison)
     }
 
     /// The sending program with books: numbers of phrases, books about the most that is looked at, and what is no book's file.
@@ -102,6 +106,24 @@ impl Programs {
         Ok(())
     }
 
+    /// The following program: identities about each limit, and arguments that name none, whatever is there to be read.
+    fn follow_limits(&self, comparison: &mut Comparison) -> Outcome {
+        let listing = program::sending(b"000009 4 3132\n00000F 1\n1FFFFF 5 41\n000009 2\n000000 7 12345\n", NO_BOOK);
+        let mut bad_sync = listing.clone();
+        bad_sync[9 * 18] = b'0';
+        let long = [b'x'; program::MOST_INPUT + 1];
+        for input in [&listing[..], &bad_sync, b"", &long[1..], &long] {
+            for identity in of_six_digits(followed::EDGES).into_iter().chain([0x00_0001, 0x00_0009, 0x00_000F]) {
+                self.follow(comparison, identity, input)?;
+            }
+            for arguments in followed::no_identities() {
+                let arguments: Vec<OsString> = arguments.into_iter().map(OsString::from_vec).collect();
+                self.follow_with(comparison, &arguments, input, b"", program::FOLLOWING_USAGE)?;
+            }
+        }
+        Ok(())
+    }
+
     pub fn round(&self, comparison: &mut Comparison, random: &mut Random) -> Outcome {
         let (job, book) = match random.below(5) {
             0 | 1 => jobs::good(random),
@@ -125,7 +147,7 @@ impl Programs {
     }
 
     fn send_with(&self, comparison: &mut Comparison, arguments: &[&Path], input: &[u8], expected: &[u8]) -> Outcome {
-        compare(&self.sending, arguments, input, expected)?;
+        compare(&self.sending, arguments, input, expected, None)?;
         comparison.count("sending program", 0);
         Ok(())
     }
@@ -134,34 +156,73 @@ impl Programs {
         std::fs::write(&self.book, book).map_err(|error| Difference(format!("{}: {error}", self.book.display())))
     }
 
+    /// Reads a listing, and follows an identity in it.
     fn read(&self, comparison: &mut Comparison, input: &[u8]) -> Outcome {
         let expected = program::reading(input);
-        compare(&self.reading, &[], input, &expected)?;
+        compare(&self.reading, NO_ARGUMENTS, input, &expected, None)?;
         comparison.count("reading program", 0);
         if let Some(path) = &self.slow_reading {
-            compare(path, &[], input, &expected)?;
+            compare(path, NO_ARGUMENTS, input, &expected, None)?;
             comparison.count("slow reading program", 0);
         }
+        let lines = reader::log_of_listing(input).map_or(vec![], |log| log.lines);
+        let identities = followed::identities(&mut comparison.random, &lines);
+        let identity = comparison.random.pick(&of_six_digits(&identities));
+        self.follow(comparison, identity, input)
+    }
+
+    /// Follows an identity of six digits.
+    fn follow(&self, comparison: &mut Comparison, identity: u32, input: &[u8]) -> Outcome {
+        let digits = OsString::from(format!("{identity:06X}"));
+        self.follow_with(comparison, &[digits], input, &program::following(identity, input), "")
+    }
+
+    fn follow_with(
+        &self,
+        comparison: &mut Comparison,
+        arguments: &[OsString],
+        input: &[u8],
+        printed: &[u8],
+        said: &str,
+    ) -> Outcome {
+        let Some(path) = &self.following else { return Ok(()) };
+        compare(path, arguments, input, printed, Some(said))?;
+        comparison.count("following program", 0);
         Ok(())
     }
 }
 
-fn compare(path: &str, arguments: &[&Path], input: &[u8], expected: &[u8]) -> Outcome {
-    let got = run(path, arguments, input).map_err(|error| Difference(format!("{path}: {error}")))?;
-    if got != expected {
-        return Err(Difference(format!("{path} prints\n{}\nexpected\n{}\ninput:\n{}", shown(&got), shown(expected), shown(input))));
-    }
-    Ok(())
+const NO_ARGUMENTS: &[&OsStr] = &[];
+
+/// Identities that an argument can name.
+fn of_six_digits(identities: &[u32]) -> Vec<u32> {
+    identities.iter().copied().filter(|&identity| identity <= 0xFF_FFFF).collect()
 }
 
-fn run(path: &str, arguments: &[&Path], input: &[u8]) -> std::io::Result<Vec<u8>> {
+/// What a program prints and, if that is compared too, what it says on standard error.
+fn compare(path: &str, arguments: &[impl AsRef<OsStr>], input: &[u8], printed: &[u8], said: Option<&str>) -> Outcome {
+    let got = run(path, arguments, input).map_err(|error| Difference(format!("{path}: {error}")))?;
+    let same = got.stdout == printed && said.is_none_or(|said| got.stderr == said.as_bytes());
+    if same {
+        return Ok(());
+    }
+    let arguments: Vec<&OsStr> = arguments.iter().map(AsRef::as_ref).collect();
+    let outputs = |printed: &[u8], said: &[u8]| format!("prints\n{}\nsays\n{}", shown(printed), shown(said));
+    Err(Difference(format!(
+        "{path} {}\nexpected: {}\narguments {arguments:?}, input:\n{}",
+        outputs(&got.stdout, &got.stderr),
+        outputs(printed, said.unwrap_or("anything").as_bytes()),
+        shown(input)
+    )))
+}
+
+fn run(path: &str, arguments: &[impl AsRef<OsStr>], input: &[u8]) -> std::io::Result<Output> {
     let mut command = Command::new(path);
-    let mut child = command.args(arguments).stdin(Stdio::piped()).stdout(Stdio::piped()).stderr(Stdio::null()).spawn()?;
+    let mut child = command.args(arguments).stdin(Stdio::piped()).stdout(Stdio::piped()).stderr(Stdio::piped()).spawn()?;
     let mut stdin = child.stdin.take().expect("piped");
-    let output = std::thread::scope(|scope| {
+    std::thread::scope(|scope| {
         // a program may stop reading when it has seen enough
         scope.spawn(move || _ = stdin.write_all(input));
         child.wait_with_output()
-    })?;
-    Ok(output.stdout)
+    })
 }

@@ -4,7 +4,8 @@
 use std::process::{Command, Output};
 
 fn wide(fault: &str) -> Output {
-    let arguments = ["5", "1", env!("CARGO_BIN_EXE_stand_in_sending"), env!("CARGO_BIN_EXE_stand_in_reading")];
+    let reading = env!("CARGO_BIN_EXE_stand_in_reading");
+    let arguments = ["5", "1", env!("CARGO_BIN_EXE_stand_in_sending"), reading, reading, env!("CARGO_BIN_EXE_stand_in_following")];
     Command::new(env!("CARGO_BIN_EXE_wide")).args(arguments).env("CARD_FAULT", fault).output().expect("wide runs")
 }
 
@@ -18,20 +19,30 @@ fn without_a_mistake() {
 const JUDGED: &[&str] =
     &["reads-31-bits", "whole-before-a-lost-word", "joined-behind-a-lost-word", "cut-keeps-its-kind", "cut-within-a-group"];
 
+/// One core has every second mistake, the other the rest: a run of the comparison takes one core.
 #[test]
 fn with_each_mistake() {
-    for fault in card::stand_in::FAULTS {
-        let output = wide(fault);
-        let text = String::from_utf8_lossy(&output.stdout);
-        assert_eq!(output.status.code(), Some(1), "{fault} isn't found");
-        assert!(text.contains("DIFFERENCE"), "{fault}: {text}");
-        if JUDGED.contains(fault) {
-            assert!(text.contains("broken: "), "{fault}: {text}");
+    std::thread::scope(|scope| {
+        for core in 0..2 {
+            scope.spawn(move || card::stand_in::FAULTS.iter().skip(core).step_by(2).for_each(|fault| is_found(fault)));
         }
-        // the programs' own mistakes, and no others, are found in what they print
-        assert_eq!(text.contains(" prints\n"), fault.starts_with("program-"), "{fault}: {text}");
-        // the slow engine's own mistakes, and no others, are found in what it answers
-        let (_, difference) = text.split_once("DIFFERENCE").expect("seen above");
-        assert_eq!(difference.contains("slowly: "), fault.starts_with("slow-"), "{fault}: {text}");
+    });
+}
+
+fn is_found(fault: &str) {
+    let output = wide(fault);
+    let text = String::from_utf8_lossy(&output.stdout);
+    assert_eq!(output.status.code(), Some(1), "{fault} isn't found");
+    assert!(text.contains("DIFFERENCE"), "{fault}: {text}");
+    if JUDGED.contains(&fault) {
+        assert!(text.contains("broken: "), "{fault}: {text}");
     }
+    // the programs' own mistakes, and no others, are found in what they print
+    assert_eq!(text.contains(" prints\n"), fault.starts_with("program-"), "{fault}: {text}");
+    // the slow engine's own mistakes, and no others, are found in what it answers
+    let (_, difference) = text.split_once("DIFFERENCE").expect("seen above");
+    assert_eq!(difference.contains("slowly: "), fault.starts_with("slow-"), "{fault}: {text}");
+    // and so are the desk receiver's
+    let followed = difference.contains("follow words: ") || difference.contains("follow listing: ");
+    assert_eq!(followed, fault.starts_with("follow-"), "{fault}: {text}");
 }

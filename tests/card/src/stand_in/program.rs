@@ -1,10 +1,11 @@
-//! The programs on top of the independent implementation, and the mistakes in the line of a refusal and with a book.
+//! The programs on top of the independent implementation, and the mistakes in the line of a refusal, with a book and with an
+//! identity.
 
 use super::is;
 use independent::book::{phrases, NO_BOOK};
-use independent::program::{self, MOST_INPUT};
-use std::ffi::OsString;
-use std::io;
+use independent::program::{self, FOLLOWING_USAGE, MOST_INPUT};
+use std::ffi::{OsStr, OsString};
+use std::io::{self, Write};
 
 /// Prints for standard input what the reading program prints.
 pub fn reading() -> io::Result<()> {
@@ -27,6 +28,29 @@ pub fn sending() -> io::Result<()> {
         long if is("program-long-book-is-24") && long.len() > MOST_INPUT => program::sending(long, NO_BOOK),
         _ => printed(program::sending(job, &book)),
     })
+}
+
+/// Prints for standard input what the following program prints for the identity that the arguments name.
+pub fn following() -> io::Result<()> {
+    let mut arguments: Vec<OsString> = std::env::args_os().skip(1).collect();
+    if is("program-follow-two-arguments") {
+        arguments.truncate(1);
+    }
+    if is("program-follow-lower-case") {
+        arguments.iter_mut().for_each(|argument| argument.make_ascii_uppercase());
+    }
+    if is("program-follow-five-digits") && arguments.len() == 1 && arguments[0].len() == 5 {
+        arguments[0] = [OsStr::new("0"), &arguments[0]].into_iter().collect();
+    }
+    match program::named_identity(&arguments) {
+        None if is("program-follow-usage-printed") => io::stdout().write_all(FOLLOWING_USAGE.as_bytes()),
+        None if is("program-follow-without-usage") => Ok(()),
+        identity => program::run_following(identity, |identity, listing| match program::following(identity, listing) {
+            _ if is("program-follow-all-lines") => program::reading(listing),
+            _ if is("program-follow-2-before-24") && identity > 0x1F_FFFF => program::following(identity, b""),
+            right => right,
+        }),
+    }
 }
 
 /// What is printed, as it is right or, for some mistakes, wrong.
