@@ -8,7 +8,8 @@ ghost use Rattle.listing.specs.Words.{wordsOf};
 ghost use Rattle.placement.specs.Placement.{frameOf};
 ghost use Rattle.reader.specs.Meaning.{meaning};
 ghost use Rattle.reader.specs.Reading.{slotWord};
-ghost use Rattle.reader.specs.Readable.{Readable};
+ghost use Rattle.reader.specs.Answers.{judgeDecoded};
+ghost use Rattle.reader.specs.Readable.{Readable, batchesFirst, Decoding};
 ghost use Rattle.reader.specs.declared.Verdict.the-variants.{Sound};
 ghost use Rattle.follower.specs.Pages.{pagesFor};
 ghost use Rattle.follower.specs.Following.{slotsIn, ownSaid};
@@ -16,6 +17,7 @@ ghost use Rattle.follower.specs.Answers.{linesInto, followJudged, follow
 ghost use Rattle.follower.specs.Progress.{InFrame, Ran, Buffers, Roomy, Printed, Kept};
 use codeword::Engine;
 use job::Printing;
+use listing::Listing;
 use reader::Fault;
 use reader::Meaning;
 use reader::Reading;
@@ -283,6 +285,17 @@ fn follow_judged(identity: u32, v: Verdict, words: &[u32], out: &mut [u8]) -> Fo
     }
 }
 
+// Follows the identity through what `listing::decode` answers: of the words that it returns those of the batches stand first.
+fn follow_decoded(identity: u32, l: Listing, words: &[u32], out: &mut [u8]) -> Following
+    requires { ⌜ Decoding l (now words) ⌝ }
+    ensures { λ r. ⌜ r ≡ followJudged identity (judgeDecoded l (batchesFirst l (now (words .entry)))) (batchesFirst l (now (words .entry))) (length (now (out .entry))) ⌝ }
+    ensures { λ r. ⌜ now (out .exit) ≡ over (now (out .entry)) (linesOf r (pagesFor identity (batchesFirst l (now (words .entry))))) ⌝ }
+{
+    let n = 17 * listing::batch_count(l);
+    let v = reader::judge_decoded(l, &words[..n]);
+    follow_judged(identity, v, &words[..n], out)
+}
+
 // Follows the identity through a slice of words, batches only: its lines go to the front of the bytes, and what stands behind them keeps
 // its value.
 pub fn follow_words(identity: u32, words: &[u32], out: &mut [u8]) -> Following
@@ -299,11 +312,7 @@ pub fn follow_listing(identity: u32, listing: &[u8], out: &mut [u8]) -> Followin
     ensures { λ r. ⌜ now (out .exit) ≡ over (now (out .entry)) (linesOf r (pagesFor identity (wordsOf (now (listing .entry))))) ⌝ }
 {
     let decoded = listing::decode(listing);
-    let words = decoded.words;
-    let l = decoded.listing;
-    let n = 17 * listing::batch_count(l);
-    let v = reader::judge_decoded(l, &words[..n]);
-    follow_judged(identity, v, &words[..n], out)
+    follow_decoded(identity, decoded.listing, &decoded.words, out)
 }
 
 // The number of an answer in the table; 0 where the identity is followed.

@@ -16,11 +16,10 @@ use Rattle.base.proofs.Bools.{either}
 use Rattle.base.proofs.ListLaws.{drop-take, over-zeros, tab-length, tab-same}
 use Rattle.listing.specs.Listing.{hasOne, hasTwo, isDue, batches, listingOf}
 use Rattle.listing.specs.Words.{lineWords, wordsIn, batchWords, wordsOf}
-use Rattle.listing.specs.Scan.{wordsDecoded}
+use Rattle.listing.specs.Scan.{wordsDecoded, wordsKept}
 use Rattle.listing.specs.Formed.{Formed}
 use Rattle.listing.specs.Answers.{decodedOf}
 use Rattle.listing.specs.declared.Decoded.{Decoded}
-use Rattle.listing.specs.declared.Fault.{Fault}
 use Rattle.listing.specs.declared.Listing.{Listing}
 use Rattle.listing.specs.declared.Listing.the-variants.{WellFormed, Declined}
 use Rattle.listing.proofs.FirstLine.{alone, pair, alone-line, pair-line, pair-inside, one-word, two-words}
@@ -122,10 +121,10 @@ formed s p b e = record {
 abbrev decoded : Listing → List ℕ → Decoded
 decoded l words = record { listing = l; words = words }
 
-module _ (s : List ℕ) {l : Listing} (e : l ≡ listingOf s) where
-  pub decoded-declined : {blank : List ℕ} {why : Fault} → blank ≡ replicate 5100 0 → l ≡ Declined why → decoded l blank ≡ decodedOf s
-  decoded-declined zeros f = ap₂ decoded e (zeros ∙ ap (λ (a : Listing). padded 5100 (batchWords s a)) (sym f ∙ e))
+module _ (s : List ℕ) {blank words : List ℕ} (zeros : blank ≡ replicate 5100 0) (written : words ≡ over blank (wordsDecoded s)) where
+  kept-is : (l : Listing) → listingOf s ≡ l → wordsKept l words ≡ padded 5100 (batchWords s l)
+  kept-is (Declined why) e = refl
+  kept-is (WellFormed p b) e = written ∙ ap₂ over zeros (listing-decoded s p b e) ∙ over-zeros 5100 (wordsOf s) ∙ ap (λ (l : Listing). padded 5100 (batchWords s l)) e
 
-  pub decoded-formed : {blank words : List ℕ} {p b : ℕ} → blank ≡ replicate 5100 0 → words ≡ over blank (wordsDecoded s) → l ≡ WellFormed p b → decoded l words ≡ decodedOf s
-  decoded-formed {blank} {words} {p} {b} zeros written f =
-      ap₂ decoded e (written ∙ ap₂ over zeros (listing-decoded s p b (sym e ∙ f)) ∙ over-zeros 5100 (wordsOf s))
+  pub decoded-is : {l : Listing} {kept : List ℕ} → l ≡ listingOf s → kept ≡ wordsKept l words → decoded l kept ≡ decodedOf s
+  decoded-is e k = ap₂ decoded e (k ∙ ap (λ (a : Listing). wordsKept a words) e ∙ kept-is (listingOf s) refl)

@@ -1,17 +1,16 @@
 -- What the answers settle, case by case. Assumes nothing.
 use Prim.Native.Nat.{ℕ, _-_, _*_, _≤_}
-use mathlib.Core.Path.{_≡_, refl, ap, _∙_}
+use mathlib.Core.Path.{_≡_, refl, ap}
 use mathlib.Core.List.{List}
 use native.Mathlib.Omega.{arith}
 use lib.ListN.{length, take, replicate, length-append}
 use lib.Seq.{take-at}
 use borrow.Author.Tests.{lt-ltb, le-ltb}
-use Rattle.listing.specs.Answers.{numberOf, placeOf, preambleLines, batchesOf, decodedOf}
+use Rattle.listing.specs.Answers.{numberOf, placeOf, preambleLines, batchesOf}
 use Rattle.listing.specs.Listing.{listingOf}
 use Rattle.listing.specs.Words.{wordsOf}
 use Rattle.listing.specs.Formed.{Front}
 use Rattle.listing.specs.Settled.{TextSettled, ListingSettled}
-use Rattle.listing.specs.declared.Decoded.{Decoded}
 use Rattle.listing.specs.declared.Fault.the-variants.{Malformed, TooMany}
 use Rattle.listing.specs.declared.Listing.{Listing}
 use Rattle.listing.specs.declared.Listing.the-variants.{WellFormed, Declined}
@@ -51,14 +50,13 @@ module _ (s : List ℕ) where
     unplaced = unplaced-by (listingOf s);
   }
 
-  pub front : {d : Decoded} {n : ℕ} → d ≡ decodedOf s → n ≡ batchesOf (d .listing) → Front s d n
-  front {d} {n} e b =
+  pub front : Front s
+  front =
       let words = wordsOf s in
       let zeros = replicate {A = ℕ} (5100 - length words) 0 in
-      let count : n ≡ batchesOf (listingOf s) = b ∙ ap (λ (x : Decoded). batchesOf (x .listing)) e in
-      let size : length words ≡ 17 * n = rw count (listing-settled .words) in
+      let size = listing-settled .words in
       record {
-        few = rw count (listing-settled .few);
-        inside = omega (arith, ap (λ (x : Decoded). length (x .words)) e, length-append words zeros);
-        words = ap (λ (x : Decoded). take (17 * n) (x .words)) e ∙ take-at words zeros (17 * n) size;
+        few = listing-settled .few;
+        inside = omega (arith, listing-settled .few, length-append words zeros);
+        words = take-at words zeros (17 * batchesOf (listingOf s)) size;
       }

@@ -3,8 +3,9 @@ use Prim.Native.Nat.{ℕ, _*_, _≤_}
 use mathlib.Core.Path.{_≡_}
 use mathlib.Core.List.{List}
 use lib.ListN.{length, take}
+use Rattle.listing.specs.Listing.{listingOf}
 use Rattle.listing.specs.Words.{wordsOf}
-use Rattle.listing.specs.declared.Decoded.{Decoded}
+use Rattle.listing.specs.Answers.{batchesOf, decodedOf}
 
 -- 9 to 36 preamble lines, and 1 to 300 batches
 pub record Limits (p b : ℕ) : Type 0 where
@@ -18,8 +19,8 @@ pub record Formed (s : List ℕ) (p b : ℕ) : Type 0 where
   pub limits : Limits p b
   pub count : length (wordsOf s) ≡ 17 * b
 
--- of what `decode` answers for a text, with n batches by `batch_count`, the batches' words stand first; `front` in proofs/Settled.antt proves it
-pub record Front (s : List ℕ) (d : Decoded) (n : ℕ) : Type 0 where
-  pub few : n ≤ 300
-  pub inside : 17 * n ≤ length (d .words)
-  pub words : take (17 * n) (d .words) ≡ wordsOf s
+-- of the words that are decoded of any text those of its batches stand first; `front` in proofs/Settled.antt proves it
+pub record Front (s : List ℕ) : Type 0 where
+  pub few : batchesOf (listingOf s) ≤ 300
+  pub inside : 17 * batchesOf (listingOf s) ≤ length (decodedOf s .words)
+  pub words : take (17 * batchesOf (listingOf s)) (decodedOf s .words) ≡ wordsOf s

@@ -3,11 +3,13 @@
 use Prim.Native.Nat.{ℕ, _+_}
 use mathlib.Core.List.{List, [], _++_}
 use mathlib.Core.Bool.{Bool, cond, _&&_, not}
-use lib.ListN.{drop}
+use lib.ListN.{drop, replicate}
 use lib.Dec.{ltb, eqb}
 use Rattle.base.specs.Lines.{Lines, behind, line, split, lineAt}
 use Rattle.listing.specs.Listing.{preambleOf, skip, isDue}
 use Rattle.listing.specs.Words.{lineWords}
+use Rattle.listing.specs.declared.Listing.{Listing}
+use Rattle.listing.specs.declared.Listing.the-variants.{WellFormed, Declined}
 
 -- the line that starts at a byte; empty where no newline follows
 abbrev pub lineFrom : List ℕ → ℕ → List ℕ
@@ -28,3 +30,8 @@ metBehind p ls = cond (ltb p 9) [] (wordsMet 0 (skip p ls))
 
 unfoldable pub wordsDecoded : List ℕ → List ℕ
 wordsDecoded s = metBehind (preambleOf (split s)) (split s)
+
+-- the words that are kept of them: none where the text is declined
+abbrev pub wordsKept : Listing → List ℕ → List ℕ
+wordsKept (WellFormed p b) words = words
+wordsKept (Declined why) words = replicate 5100 0

@@ -9,7 +9,7 @@ ghost use Rattle.listing.specs.Text.{endOf};
 ghost use Rattle.listing.specs.Listing.{hasOne, hasTwo, preambleOf, isDue, batches, listingOf};
 ghost use Rattle.listing.specs.Answers.{numberOf, placeOf, batchesOf, decodedOf};
 ghost use Rattle.listing.specs.Writing.{writingOf, afterWrite};
-ghost use Rattle.listing.specs.Scan.{lineFrom, wordsIf, wordsMet, wordsDecoded};
+ghost use Rattle.listing.specs.Scan.{lineFrom, wordsIf, wordsMet, wordsDecoded, wordsKept};
 ghost use Rattle.listing.specs.declared.Fault.the-variants.{Malformed, TooMany};
 use base::HexWord;
 
@@ -231,24 +231,31 @@ fn blank_words() -> [u32; 5100]
     [0u32; 5100]
 }
 
+// Clears the words of a text that is declined.
+fn clear_declined(l: Listing, words: &mut [u32; 5100])
+    ensures { λ _. ⌜ now (words .exit) ≡ wordsKept l (now (words .entry)) ⌝ }
+{
+    match l {
+        Listing::WellFormed {
+            preamble: _,
+            batches: _,
+        } => {}
+        Listing::Declined(_) => {
+            *words = blank_words();
+        }
+    }
+}
+
 // A listing's preamble lines and batches with the batches' words, or the fault of the first line that is not right.
 pub fn decode(s: &[u8]) -> Decoded
     ensures { λ r. ⌜ r ≡ decodedOf (now (s .entry)) ⌝ }
 {
     let mut words = blank_words();
     let listing = read_text(s, &mut words);
-    match listing {
-        Listing::WellFormed {
-            preamble: _,
-            batches: _,
-        } => Decoded {
-            listing: listing,
-            words: words,
-        },
-        Listing::Declined(_) => Decoded {
-            listing: listing,
-            words: blank_words(),
-        },
+    clear_declined(listing, &mut words);
+    Decoded {
+        listing: listing,
+        words: words,
     }
 }
 

@@ -11,14 +11,17 @@ use Rattle.base.proofs.SearchLaws.{least-only}
 use Rattle.codeword.specs.Nearest.{nearest}
 use Rattle.listing.specs.Listing.{listingOf}
 use Rattle.listing.specs.Words.{wordsOf}
+use Rattle.listing.specs.declared.Decoded.{Decoded}
 use Rattle.listing.specs.declared.Listing.{Listing}
 use Rattle.listing.specs.declared.Listing.the-variants as listing
+use Rattle.listing.specs.Answers.{decodedOf}
 use Rattle.listing.proofs.Indexed.{formed}
+use Rattle.listing.proofs.Settled.{front}
 use Rattle.reader.specs.Meaning.{meaning}
 use Rattle.reader.specs.Reading.{hear, readAt, ended, slotWord, changesIn, heardIn}
 use Rattle.reader.specs.Lines.{linesHeard}
 use Rattle.reader.specs.Answers.{unsynced, firstUnsynced, judgeBatches, judgeWords, judgeDecoded, judgeListing, printedInto}
-use Rattle.reader.specs.Readable.{Readable, AllReadable}
+use Rattle.reader.specs.Readable.{Readable, batchesFirst, Decoding, AllReadable}
 use Rattle.reader.specs.Symbols.{said, Tells, stateBy, heardBy}
 use Rattle.reader.specs.Progress.{KeptAll}
 use Rattle.reader.specs.declared.Changes.{Changes}
@@ -142,5 +145,26 @@ listing-readable s = go (listingOf s) refl
         record { few = omega (arith, there .count, there .limits .few); synced = batches-synced (wordsOf s) f }
     go (listing.Declined why) e f = absurd (faulty-sound f)
 
+module _ (s : List ℕ) {d : Decoded} (e : d ≡ decodedOf s) where
+  decoded-first : batchesFirst (d .listing) (d .words) ≡ wordsOf s
+  decoded-first = ap (λ (x : Decoded). batchesFirst (x .listing) (x .words)) e ∙ front s .words
+
+  decoded-verdict : judgeDecoded (d .listing) (wordsOf s) ≡ judgeListing s
+  unfolding judgeListing
+  decoded-verdict = ap (λ (x : Decoded). judgeDecoded (x .listing) (wordsOf s)) e
+
+  decoded-readable : Decoding (d .listing) (d .words)
+  decoded-readable = record {
+    few = rw e (front s .few);
+    inside = rw e (front s .inside);
+    sound = rw decoded-first (λ f. listing-readable s (sym decoded-verdict ∙ f));
+  }
+
 pub readable : AllReadable
-readable = record { of-words = words-readable; of-listing = listing-readable }
+readable = record {
+  of-words = words-readable;
+  of-listing = listing-readable;
+  of-decoded = decoded-readable;
+  first = decoded-first;
+  verdict = decoded-verdict;
+}

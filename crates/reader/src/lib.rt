@@ -12,7 +12,7 @@ ghost use Rattle.reader.specs.Changed.{unlessLost, slotChanged, slotsCha
 ghost use Rattle.reader.specs.Reading.{closedAs, slotWord, syncWord, heardIn};
 ghost use Rattle.reader.specs.Lines.{kindHeard, digitsHeard, lineHeard, heardPage, printingHeard, digitsWritten, lineWritten};
 ghost use Rattle.reader.specs.Answers.{firstUnsynced, judgeBatches, judgeWords, faultOf, judgeDecoded, printedInto, answered, linesOf, readWords, readListing, linesRead, numberOf, placeOf};
-ghost use Rattle.reader.specs.Readable.{Readable};
+ghost use Rattle.reader.specs.Readable.{Readable, batchesFirst, Decoding};
 ghost use Rattle.reader.specs.Symbols.{said, Tells, stateBy, heardBy, pageIn, Printable};
 ghost use Rattle.reader.specs.Progress.{Buffers, Room, Messages, Idles, Quiet, withMessages, Kept, KeptAll, closed};
 ghost use Rattle.reader.specs.declared.Verdict.the-variants.{Sound};
@@ -621,6 +621,17 @@ pub fn judge_decoded(l: listing::Listing, words: &[u32]) -> Verdict
     }
 }
 
+// Reads what `listing::decode` answers: of the words that it returns those of the batches stand first.
+fn read_decoded(engine: Engine, l: listing::Listing, words: &[u32], out: &mut [u8]) -> Reading
+    requires { ⌜ Decoding l (now words) ⌝ }
+    ensures { λ r. ⌜ r ≡ answered (judgeDecoded l (batchesFirst l (now (words .entry)))) (heardIn (batchesFirst l (now (words .entry)))) (length (now (out .entry))) ⌝ }
+    ensures { λ r. ⌜ now (out .exit) ≡ over (now (out .entry)) (linesRead r (batchesFirst l (now (words .entry)))) ⌝ }
+{
+    let n = 17 * listing::batch_count(l);
+    let v = judge_decoded(l, &words[..n]);
+    read_judged(engine, v, &words[..n], out)
+}
+
 // Reads a slice of words, batches only: the lines of the pages go to the front of the bytes, and what stands behind them keeps its value.
 // The engine corrects the slots' words; sync is told, with either, by the bits that differ.
 pub fn read_words(engine: Engine, words: &[u32], out: &mut [u8]) -> Reading
@@ -637,11 +648,7 @@ pub fn read_listing(engine: Engine, listing: &[u8], out: &mut [u8]) -> Reading
     ensures { λ r. ⌜ now (out .exit) ≡ over (now (out .entry)) (linesRead r (wordsOf (now (listing .entry)))) ⌝ }
 {
     let decoded = listing::decode(listing);
-    let words = decoded.words;
-    let l = decoded.listing;
-    let n = 17 * listing::batch_count(l);
-    let v = judge_decoded(l, &words[..n]);
-    read_judged(engine, v, &words[..n], out)
+    read_decoded(engine, decoded.listing, &decoded.words, out)
 }
 
 // The number of a reading in the table; 0 where it is read.

@@ -1,106 +1,47 @@
--- `reader::read_listing` meets its contract: what is read are the words at the front of what is decoded. Assumes nothing.
-use mathlib.Core.Path.{_≡_, sym, ap, ap₂, _∙_}
+-- `reader::read_listing` meets its contract. Assumes nothing.
+use mathlib.Core.Path.{_≡_, ap, _∙_}
 use mathlib.Core.List.{List}
-use Prim.Native.Nat.{ℕ, _*_}
-use native.Mathlib.Omega.{arith}
-use lib.ListN.{length, take}
-use lib.Seq.{length-take-le}
+use Prim.Native.Nat.{ℕ}
+use lib.ListN.{length}
 use denote.Ref.{now}
 use borrow.Author.Needs.{needs}
 use Rattle.base.specs.Lists.{over}
-use Rattle.listing.specs.Words.{wordsOf}
-use Rattle.listing.specs.Formed.{Front}
+use Rattle.listing.specs.Answers.{decodedOf}
 use Rattle.listing.specs.declared.Decoded.{Decoded}
-use Rattle.listing.proofs.Settled.{front}
 use Rattle.reader.specs.Reading.{heardIn}
-use Rattle.reader.specs.Answers.{judgeDecoded, judgeListing, answered, readListing, linesRead}
-use Rattle.reader.specs.declared.Verdict.{Verdict}
+use Rattle.reader.specs.Readable.{batchesFirst}
+use Rattle.reader.specs.Answers.{judgeDecoded, answered, readListing, linesRead}
 use Rattle.reader.proofs.AnswerLaws.{readable}
 use Rattle.reader.proofs.read_listing.Statement.{statement}
 use Rattle.reader.proofs.read_listing.Tie as tie
 
-module _ (c : tie.After-batch-count) where
-  abbrev text : List ℕ
-  text = now (c .before .before .before .before .before .args .listing)
-
-  abbrev decoded : Decoded
-  decoded = c .before .before .decode .result
-
-  abbrev n : ℕ
-  n = c .batch-count .result
-
-  there : Front text decoded n
-  there = front text (c .before .before .decode .ensures) (c .batch-count .ensures)
-
-  part-length : 17 * n ≡ length (take (17 * n) (decoded .words))
-  part-length = sym (length-take-le (17 * n) (decoded .words) (there .inside))
-
--- the verdict is the listing's
-verdict : (c : tie.After-judge-decoded) → c .judge-decoded .result ≡ judgeListing (text (c .before .before))
-unfolding judgeListing
-verdict c =
-    let b = c .before .before in
-    c .judge-decoded .ensures ∙ ap₂ judgeDecoded (ap (λ (d : Decoded). d .listing) (b .before .before .decode .ensures)) (there b .words)
+-- what is decoded is read as the listing
+read-as : (s : List ℕ) (room : ℕ) {d : Decoded} → d ≡ decodedOf s
+    → answered (judgeDecoded (d .listing) (batchesFirst (d .listing) (d .words))) (heardIn (batchesFirst (d .listing) (d .words))) room ≡ readListing s room
+unfolding readListing
+read-as s room e = rw (readable .first s e, readable .verdict s e)
 
 decode-requires : tie.Need-decode-requires
 decode-requires c κs = search needs
 
-batch-count-requires : tie.Need-batch-count-requires
-batch-count-requires c κs = search needs
-
-mul-n : tie.Need-mul-n
-mul-n c = omega (arith, there c .few)
-
-array-share-prefix-words : tie.Need-array-share-prefix-words
-array-share-prefix-words c = there c .inside
-
-slice-aggregate-judge-decoded : tie.Need-slice-aggregate-judge-decoded
-slice-aggregate-judge-decoded c = part-length (c .before)
-
-judge-decoded-requires : tie.Need-judge-decoded-requires
-judge-decoded-requires c κs = search needs
-
-array-share-prefix-words-2 : tie.Need-array-share-prefix-words-2
-array-share-prefix-words-2 c = there (c .before .before) .inside
-
-slice-aggregate-read-judged : tie.Need-slice-aggregate-read-judged
-slice-aggregate-read-judged c = part-length (c .before .before .before)
-
-read-judged-requires : tie.Need-read-judged-requires
-read-judged-requires c κs e =
-    let j = c .before .before in
-    let b = j .before .before in
-    rw (there b .words) (readable .of-listing (text b) (sym (verdict j) ∙ e))
+read-decoded-requires : tie.Need-read-decoded-requires
+read-decoded-requires c κs =
+    let d = c .before .before .before .before in
+    readable .of-decoded (now (d .before .before .before .args .listing)) (d .decode .ensures)
 
 same-length : tie.Need-same-length
 same-length c = search needs
 
-judged : (s words : List ℕ) (room : ℕ) {v : Verdict} → words ≡ wordsOf s → v ≡ judgeListing s → answered v (heardIn words) room ≡ readListing s room
-unfolding readListing
-judged s words room w e = ap₂ (λ (v : Verdict) (ws : List ℕ). answered v (heardIn ws) room) e w
-
 returns : tie.Need-returns
 returns c =
-    let j = c .before .before .before .before .before in
-    let b = j .before .before in
-    let out = now (b .before .before .before .before .before .args .out) in
-    let r = c .before .before .read-judged in (
-      r .ensures .0 ∙ judged (text b) (take (17 * n b) (decoded b .words)) (length out) (there b .words) (verdict j),
-      r .ensures .1 ∙ ap (λ (ws : List ℕ). over out (linesRead (r .result) ws)) (there b .words),
+    let r = c .before .before .read-decoded in
+    let d = c .before .before .before .before .before .before .before in
+    let a = d .before .before .before .args in
+    let s = now (a .listing) in
+    let out = now (a .out) in (
+      r .ensures .0 ∙ read-as s (length out) (d .decode .ensures),
+      r .ensures .1 ∙ ap (λ (ws : List ℕ). over out (linesRead (r .result) ws)) (readable .first s (d .decode .ensures)),
     )
 
 pub read-listing-spec : {M : Type 1} → statement M
-read-listing-spec =
-    tie.close
-    (tie.spec
-    decode-requires
-    batch-count-requires
-    mul-n
-    array-share-prefix-words
-    slice-aggregate-judge-decoded
-    judge-decoded-requires
-    array-share-prefix-words-2
-    slice-aggregate-read-judged
-    read-judged-requires
-    same-length
-    returns)
+read-listing-spec = tie.close (tie.spec decode-requires read-decoded-requires same-length returns)
