@@ -19,7 +19,7 @@ use Rattle.reader.specs.Reading.{Hearing, opened, extended, closedAs, close, he
 use Rattle.reader.specs.declared.Meaning.{Meaning}
 use Rattle.reader.specs.declared.Meaning.the-variants.{Lost, Idle, Address, Message}
 use Rattle.follower.specs.Pages.{ofIdentity, pagesFor}
-use Rattle.follower.specs.Following.{onward, followed, openedBy, pagesFrom, ownSaid, ownAt, ownPage, ownOpened, ownFrom, slotsIn, Follows}
+use Rattle.follower.specs.Following.{onward, followed, openedBy, pagesFrom, ownSaid, ownAt, ownPage, ownOpened, ownFrom, slotCount, Follows}
 use Rattle.follower.specs.declared.Own.the-variants.{Page, Nothing}
 
 -- ---- all pages
@@ -163,5 +163,5 @@ module _ (word : ℕ → ℕ) where
 pub follows : (i : ℕ) (words : List ℕ) → Follows i words
 unfolding heardIn pagesFor
 follows i words =
-    let all : heardIn words .pages ≡ pagesFrom (slotWord words) 0 (slotsIn words) = all-pages (slotWord words) (slotsIn words) in
-    record { all = all; own = ap (ofIdentity i) all ∙ own-pages (slotWord words) i (slotsIn words) 0 }
+    let all : heardIn words .pages ≡ pagesFrom (slotWord words) 0 (slotCount words) = all-pages (slotWord words) (slotCount words) in
+    record { all = all; own = ap (ofIdentity i) all ∙ own-pages (slotWord words) i (slotCount words) 0 }

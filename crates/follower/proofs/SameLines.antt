@@ -28,7 +28,7 @@ use Rattle.reader.specs.declared.Meaning.the-variants.{Lost, Idle, Address, Mes
 use Rattle.reader.specs.declared.Reading.{Reading}
 use Rattle.reader.specs.declared.Reading.the-variants.{Read, Declined, NoRoom}
 use Rattle.follower.specs.Pages.{ofIdentity, pagesFor}
-use Rattle.follower.specs.Following.{followed, openedBy, pagesFrom, slotsIn}
+use Rattle.follower.specs.Following.{followed, openedBy, pagesFrom, slotCount}
 use Rattle.follower.specs.SameLines.{linesFor, SameLines}
 use Rattle.follower.proofs.Follows.{addressed, same-identity, follows}
 
@@ -101,7 +101,7 @@ module _ (word : ℕ → ℕ) (i : ℕ) where
 
 heard-same : (i : ℕ) (words : List ℕ) → linesHeard (pagesFor i words) ≡ linesFor i (split (linesHeard (heardIn words .pages)))
 unfolding pagesFor
-heard-same i words = rw (follows i words .all) (all-same (slotWord words) i (slotsIn words) 0)
+heard-same i words = rw (follows i words .all) (all-same (slotWord words) i (slotCount words) 0)
 
 -- a reading that is not declined prints them all
 all-printed : (r : Reading) (h : Heard) → numberOf r ≡ 0 → linesOf r h ≡ linesHeard (h .pages)

@@ -73,10 +73,10 @@ ownFrom i word s (suc k) = ownOpened i word s k (ownAt i word s) ++ ownFrom i wo
 -- ---- whole batches
 
 -- how many slots they have
-abbrev pub slotsIn : List ℕ → ℕ
-slotsIn words = 16 * (length words / 17)
+abbrev pub slotCount : List ℕ → ℕ
+slotCount words = 16 * (length words / 17)
 
 -- all pages that the full reader hears, and those of identity i among them
 pub record Follows (i : ℕ) (words : List ℕ) : Type 0 where
-  pub all : heardIn words .pages ≡ pagesFrom (slotWord words) 0 (slotsIn words)
-  pub own : pagesFor i words ≡ ownFrom i (slotWord words) 0 (slotsIn words)
+  pub all : heardIn words .pages ≡ pagesFrom (slotWord words) 0 (slotCount words)
+  pub own : pagesFor i words ≡ ownFrom i (slotWord words) 0 (slotCount words)

@@ -7,7 +7,7 @@ use Rattle.base.specs.Lists.{over}
 use Rattle.placement.specs.Placement.{frameOf}
 use Rattle.reader.specs.Reading.{Hearing, slotWord}
 use Rattle.reader.specs.Lines.{lineHeard, linesHeard}
-use Rattle.follower.specs.Following.{followed, ownPage, ownFrom, slotsIn}
+use Rattle.follower.specs.Following.{followed, ownPage, ownFrom, slotCount}
 use Rattle.follower.specs.declared.Message.{Message}
 use Rattle.follower.specs.declared.Line.{Line}
 use Rattle.follower.specs.declared.Progress.{Progress}
@@ -25,38 +25,38 @@ withGroups h groups m = record { identity = h .identity; function = h .function;
 -- from slot s on, an open page has message words up to slot `end`, whose groups are the first of these; no page opens among them
 pub record Ran (words : List ℕ) (s : ℕ) (groups : List ℕ) (m : Message) : Type 0 where
   pub on : s ≤ m .end
-  pub inside : m .end ≤ slotsIn words
-  pub room : slotsIn words ≤ length groups
-  pub page : (h : Hearing) → followed (slotWord words) s (slotsIn words - s) h ≡ withGroups h (take (m .end - s) groups) m
-  pub others : (i : ℕ) → ownFrom i (slotWord words) s (slotsIn words - s) ≡ ownFrom i (slotWord words) (m .end) (slotsIn words - m .end)
+  pub inside : m .end ≤ slotCount words
+  pub room : slotCount words ≤ length groups
+  pub page : (h : Hearing) → followed (slotWord words) s (slotCount words - s) h ≡ withGroups h (take (m .end - s) groups) m
+  pub others : (i : ℕ) → ownFrom i (slotWord words) s (slotCount words - s) ≡ ownFrom i (slotWord words) (m .end) (slotCount words - m .end)
 
 -- at most 300 batches, and room for a group, ten digits and eleven bytes a slot
 pub record Buffers (words : List ℕ) (groups digits lines : ℕ) : Type 0 where
-  pub slots : slotsIn words ≤ 4800
-  pub collected : slotsIn words ≤ groups
-  pub written : 10 * slotsIn words ≤ digits
-  pub printed : 11 * slotsIn words ≤ lines
+  pub slots : slotCount words ≤ 4800
+  pub collected : slotCount words ≤ groups
+  pub written : 10 * slotCount words ≤ digits
+  pub printed : 11 * slotCount words ≤ lines
 
 -- the page of identity i that opens in slot s with function f
 abbrev pub pageAt : ℕ → ℕ → List ℕ → ℕ → Hearing
-pageAt i f words s = followed (slotWord words) (s + 1) (slotsIn words - (s + 1)) (ownPage i f)
+pageAt i f words s = followed (slotWord words) (s + 1) (slotCount words - (s + 1)) (ownPage i f)
 
 -- there is room for what it can have
 pub record Roomy (words : List ℕ) (s f groups digits room : ℕ) : Type 0 where
-  pub inside : s < slotsIn words
+  pub inside : s < slotCount words
   pub function : f < 4
-  pub collected : slotsIn words ≤ groups
-  pub written : 10 * slotsIn words ≤ digits
-  pub printed : 11 * (slotsIn words - s) ≤ room
+  pub collected : slotCount words ≤ groups
+  pub written : 10 * slotCount words ≤ digits
+  pub printed : 11 * (slotCount words - s) ≤ room
 
 -- its line is printed, and the next slot to look at is known
 pub record Printed (i f : ℕ) (words : List ℕ) (s : ℕ) (old new : List ℕ) (l : Line) : Type 0 where
   pub on : s < l .end
-  pub inside : l .end ≤ slotsIn words
+  pub inside : l .end ≤ slotCount words
   pub size : l .bytes ≡ length (lineHeard (pageAt i f words s))
   pub short : l .bytes ≤ 11 * (l .end - s)
   pub is : new ≡ over old (lineHeard (pageAt i f words s))
-  pub others : ownFrom i (slotWord words) (s + 1) (slotsIn words - (s + 1)) ≡ ownFrom i (slotWord words) (l .end) (slotsIn words - l .end)
+  pub others : ownFrom i (slotWord words) (s + 1) (slotCount words - (s + 1)) ≡ ownFrom i (slotWord words) (l .end) (slotCount words - l .end)
 
 -- the lines of these pages are printed
 pub record Kept (hs : List Hearing) (p : Progress) (lines : List ℕ) : Type 0 where

@@ -12,7 +12,7 @@ ghost use Rattle.reader.specs.Answers.{judgeDecoded};
 ghost use Rattle.reader.specs.Readable.{Readable, batchesFirst, Decoding};
 ghost use Rattle.reader.specs.declared.Verdict.the-variants.{Sound};
 ghost use Rattle.follower.specs.Pages.{pagesFor};
-ghost use Rattle.follower.specs.Following.{slotsIn, ownSaid};
+ghost use Rattle.follower.specs.Following.{slotCount, ownSaid};
 ghost use Rattle.follower.specs.Answers.{linesInto, followJudged, followWords, followListing, linesOf, numberOf, placeOf};
 ghost use Rattle.follower.specs.Progress.{InFrame, Ran, Buffers, Roomy, Printed, Kept};
 use codeword::Engine;
@@ -85,7 +85,7 @@ fn next_in_frame(frame: usize, s: usize) -> usize
 
 // Whether slot s, which is in the identity's frame, holds its address.
 fn own_page(identity: u32, words: &[u32], s: usize) -> Own
-    requires { ⌜ s < slotsIn (now words) ⌝ }
+    requires { ⌜ s < slotCount (now words) ⌝ }
     ensures { λ r. ⌜ r ≡ ownSaid identity (meaning (nearest (slotWord (now (words .entry)) s))) ⌝ }
 {
     let m = reader::word_meaning(Engine::Fast, words[17 * (s / 16) + 1 + s % 16]);
@@ -104,8 +104,8 @@ fn own_page(identity: u32, words: &[u32], s: usize) -> Own
 
 // Follows a message from slot s on, through all frames and batches: its groups go over the front of the lent ones.
 fn follow_message(words: &[u32], s: usize, groups: &mut [u32]) -> Message
-    requires { ⌜ s ≤ slotsIn (now words) ⌝ }
-    requires { ⌜ slotsIn (now words) ≤ length (now groups) ⌝ }
+    requires { ⌜ s ≤ slotCount (now words) ⌝ }
+    requires { ⌜ slotCount (now words) ≤ length (now groups) ⌝ }
     ensures { λ r. ⌜ Ran (now (words .entry)) s (now (groups .exit)) r ⌝ }
 {
     let slots = 16 * (words.len() / 17);
@@ -233,7 +233,7 @@ fn follow_into(
 
 // Follows the identity through at most 16 batches: to clear the room for 300 would take longer than to follow it.
 fn follow_few(identity: u32, words: &[u32], out: &mut [u8]) -> Following
-    requires { ⌜ slotsIn (now words) ≤ 256 ⌝ }
+    requires { ⌜ slotCount (now words) ≤ 256 ⌝ }
     ensures { λ r. ⌜ r ≡ linesInto (pagesFor identity (now (words .entry))) (length (now (out .entry))) ⌝ }
     ensures { λ r. ⌜ now (out .exit) ≡ over (now (out .entry)) (linesOf r (pagesFor identity (now (words .entry)))) ⌝ }
 {
@@ -245,7 +245,7 @@ fn follow_few(identity: u32, words: &[u32], out: &mut [u8]) -> Following
 
 // Follows the identity through at most 300 batches.
 fn follow_many(identity: u32, words: &[u32], out: &mut [u8]) -> Following
-    requires { ⌜ slotsIn (now words) ≤ 4800 ⌝ }
+    requires { ⌜ slotCount (now words) ≤ 4800 ⌝ }
     ensures { λ r. ⌜ r ≡ linesInto (pagesFor identity (now (words .entry))) (length (now (out .entry))) ⌝ }
     ensures { λ r. ⌜ now (out .exit) ≡ over (now (out .entry)) (linesOf r (pagesFor identity (now (words .entry)))) ⌝ }
 {

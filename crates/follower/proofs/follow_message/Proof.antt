@@ -6,7 +6,7 @@ use native.Mathlib.Omega.{arith}
 use denote.Ref.{now}
 use borrow.Author.Needs.{needs}
 use Rattle.reader.specs.Reading.{slotWord}
-use Rattle.follower.specs.Following.{slotsIn}
+use Rattle.follower.specs.Following.{slotCount}
 use Rattle.follower.proofs.SlotLaws.{lost-on, idle-on, address-on, end-on}
 use Rattle.follower.proofs.Going.{Going, going-none, going-more, going-closed}
 use Rattle.follower.proofs.follow_message.Statement.{statement}
@@ -53,7 +53,7 @@ returns c =
     let a = c .before .before .before .before .before .before .before .before .args in
     let l = c .before .before .before .before .before .loop in
     let says = sym (c .before .before .word-meaning .ensures) ∙ c .enum-told .given .1 in
-    going-closed (now (a .words)) (a .s) (now (a .groups)) (l .e) (l .inv) true (λ h. lost-on (slotWord (now (a .words))) (l .e) (slotsIn (now (a .words))) (c .before .before .before .before .loop-test .taken) h says)
+    going-closed (now (a .words)) (a .s) (now (a .groups)) (l .e) (l .inv) true (λ h. lost-on (slotWord (now (a .words))) (l .e) (slotCount (now (a .words))) (c .before .before .before .before .loop-test .taken) h says)
 
 enum-told-2 : tie.Need-enum-told-2 Inv-loop μ-loop
 enum-told-2 c = search needs
@@ -66,7 +66,7 @@ returns-2 c =
     let a = c .before .before .before .before .before .before .before .before .args in
     let l = c .before .before .before .before .before .loop in
     let says = sym (c .before .before .word-meaning .ensures) ∙ c .enum-told2 .given .1 in
-    going-closed (now (a .words)) (a .s) (now (a .groups)) (l .e) (l .inv) false (λ h. idle-on (slotWord (now (a .words))) (l .e) (slotsIn (now (a .words))) (c .before .before .before .before .loop-test .taken) h says)
+    going-closed (now (a .words)) (a .s) (now (a .groups)) (l .e) (l .inv) false (λ h. idle-on (slotWord (now (a .words))) (l .e) (slotCount (now (a .words))) (c .before .before .before .before .loop-test .taken) h says)
 
 enum-told-3 : tie.Need-enum-told-3 Inv-loop μ-loop
 enum-told-3 c = search needs
@@ -79,7 +79,7 @@ returns-3 c =
     let a = c .before .before .before .before .before .before .before .before .args in
     let l = c .before .before .before .before .before .loop in
     let says = sym (c .before .before .word-meaning .ensures) ∙ c .enum-told3 .given .1 in
-    going-closed (now (a .words)) (a .s) (now (a .groups)) (l .e) (l .inv) false (λ h. address-on (slotWord (now (a .words))) (l .e) (slotsIn (now (a .words))) (c .before .before .before .before .loop-test .taken) h says)
+    going-closed (now (a .words)) (a .s) (now (a .groups)) (l .e) (l .inv) false (λ h. address-on (slotWord (now (a .words))) (l .e) (slotCount (now (a .words))) (c .before .before .before .before .loop-test .taken) h says)
 
 enum-known-m : tie.Need-enum-known-m Inv-loop μ-loop
 enum-known-m c = search needs
@@ -113,7 +113,7 @@ returns-4 : tie.Need-returns-4 Inv-loop μ-loop
 returns-4 c =
     let a = c .before .before .before .before .args in
     let l = c .before .loop in
-    going-closed (now (a .words)) (a .s) (now (a .groups)) (l .e) (l .inv) false (λ h. end-on (slotWord (now (a .words))) (l .e) (slotsIn (now (a .words))) (omega arith) h)
+    going-closed (now (a .words)) (a .s) (now (a .groups)) (l .e) (l .inv) false (λ h. end-on (slotWord (now (a .words))) (l .e) (slotCount (now (a .words))) (omega arith) h)
 
 pub follow-message-spec : {M : Type 1} → statement M
 follow-message-spec =
