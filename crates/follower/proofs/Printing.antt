@@ -11,7 +11,7 @@ use Rattle.job.specs.declared.Printing as job
 use Rattle.job.specs.declared.Printing.the-variants as printing
 use Rattle.reader.specs.Reading.{Hearing}
 use Rattle.reader.specs.Lines.{lineHeard, heardPage, roomFor, printingHeard, lineWritten}
-use Rattle.reader.proofs.PageLaws.{lines-short, room-enough}
+use Rattle.reader.proofs.Laws.{lines-short, room-enough}
 use Rattle.follower.specs.Following.{ownPage}
 use Rattle.follower.specs.Progress.{Ran, pageAt, Roomy, Printed}
 use Rattle.follower.specs.declared.Message.{Message}

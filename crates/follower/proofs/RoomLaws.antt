@@ -18,7 +18,7 @@ use Rattle.reader.specs.Answers as reading
 use Rattle.reader.specs.Answers.{judgeWords, judgeListing, printedInto, answered, readWords, readListing}
 use Rattle.reader.specs.declared.Verdict.{Verdict}
 use Rattle.reader.specs.declared.Verdict.the-variants.{Sound, Faulty}
-use Rattle.reader.proofs.RoomLaws as reader
+use Rattle.reader.proofs.Laws as reader
 use Rattle.follower.specs.Pages.{ofIdentity, pagesFor}
 use Rattle.follower.specs.Answers.{linesInto, unlessFaulty, followJudged, followWords, followListing, numberOf}
 use Rattle.follower.specs.Enough.{Enough}

@@ -9,7 +9,7 @@ use Rattle.base.specs.Lists.{over}
 use Rattle.base.proofs.ListLaws.{over-behind, over-length}
 use Rattle.reader.specs.Reading.{Hearing, slotWord}
 use Rattle.reader.specs.Lines.{lineHeard, linesHeard}
-use Rattle.reader.proofs.Blocks.{lines-more}
+use Rattle.reader.proofs.Laws.{lines-more}
 use Rattle.follower.specs.Pages.{pagesFor}
 use Rattle.follower.specs.Following.{ownAt, ownFrom, slotCount}
 use Rattle.follower.specs.Progress.{InFrame, pageAt, Printed, Kept}

@@ -8,3 +8,4 @@ pub mod OverLaws
 pub mod Keeping
 pub mod Runs
 pub mod RoomLaws
+pub mod Laws

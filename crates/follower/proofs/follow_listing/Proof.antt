@@ -10,7 +10,7 @@ use Rattle.listing.specs.Answers.{decodedOf}
 use Rattle.listing.specs.declared.Decoded.{Decoded}
 use Rattle.reader.specs.Readable.{batchesFirst}
 use Rattle.reader.specs.Answers.{judgeDecoded}
-use Rattle.reader.proofs.AnswerLaws.{readable}
+use Rattle.reader.proofs.Laws.{readable}
 use Rattle.follower.specs.Pages.{pagesFor}
 use Rattle.follower.specs.Answers.{followJudged, followListing, linesOf}
 use Rattle.follower.proofs.follow_listing.Statement.{statement}

@@ -7,7 +7,7 @@ use denote.Ref.{now}
 use borrow.Author.Needs.{needs}
 use Rattle.reader.specs.Answers.{judgeWords}
 use Rattle.reader.specs.declared.Verdict.{Verdict}
-use Rattle.reader.proofs.AnswerLaws.{readable}
+use Rattle.reader.proofs.Laws.{readable}
 use Rattle.follower.specs.Answers.{followJudged, followWords}
 use Rattle.follower.proofs.follow_words.Statement.{statement}
 use Rattle.follower.proofs.follow_words.Tie as tie
