@@ -158,9 +158,9 @@ struct card_reading card_read_words_slowly(const uint32_t *words, size_t words_l
 struct card_reading card_read_listing_slowly(const uint8_t *listing, size_t listing_length, uint8_t *out, size_t out_length);
 
 /* ---- following one identity, as a desk receiver does: of the lines that reading prints those with the identity, in the same order,
- * whatever the kind, lines of pages cut short among them. Where the rest is not wanted it takes less time than reading: as long as no
- * page of the identity is open, only the two words of its frame are looked at in each batch, and the sync words. The words are corrected
- * by the fast engine. */
+ * whatever the kind, lines of pages cut short among them. As long as no page of the identity is open, only the two words of its frame
+ * are looked at in each batch, and the sync words: in the words of many batches it takes an eighth of the time of reading, in their
+ * listing half of it. The words are corrected by the fast engine. */
 
 struct card_following {
     size_t place;
