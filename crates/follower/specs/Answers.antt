@@ -34,11 +34,11 @@ followJudged i v words room =
     (cond (isReserved i) (Declined IdentityReserved)
     (unlessFaulty v (linesInto (pagesFor i words) room)))
 
--- a slice of words
+-- following an identity through a slice of words: 2, 3, then 21, 23, 22, then 10
 unfoldable pub followWords : ℕ → List ℕ → ℕ → Following
 followWords i words room = followJudged i (judgeWords words) words room
 
--- a listing
+-- through a listing: 2, 3, then 21 or 23, then 22, then 10
 unfoldable pub followListing : ℕ → List ℕ → ℕ → Following
 followListing i s room = followJudged i (judgeListing s) (wordsOf s) room
 

@@ -54,6 +54,7 @@ abbrev pub judgeDecoded : Listing → List ℕ → Verdict
 judgeDecoded (listing.Declined why) words = Faulty (faultOf why)
 judgeDecoded (listing.WellFormed preamble batches) words = judgeBatches words
 
+-- any text as a listing
 unfoldable pub judgeListing : List ℕ → Verdict
 judgeListing s = judgeDecoded (listingOf s) (wordsOf s)
 
@@ -70,9 +71,11 @@ abbrev pub answered : Verdict → Heard → ℕ → Reading
 answered (Faulty why) h room = Declined why
 answered Sound h room = printedInto h room
 
+-- reading a slice of words: 21, 23, 22, then 10
 unfoldable pub readWords : List ℕ → ℕ → Reading
 readWords words room = answered (judgeWords words) (heardIn words) room
 
+-- reading a listing: 21 or 23, then 22, then 10
 unfoldable pub readListing : List ℕ → ℕ → Reading
 readListing s room = answered (judgeListing s) (heardIn (wordsOf s)) room
 
