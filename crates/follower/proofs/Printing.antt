@@ -57,9 +57,3 @@ module _ (i f : ℕ) (words : List ℕ) (s : ℕ) (groups : List ℕ) (m : Messa
           is = o ∙ ap (λ (b : Bool). over old (cond b (lineHeard heard) [])) enough ∙ ap (λ (h : Hearing). over old (lineHeard h)) same;
           others = r .others i;
         }
-
-pub no-room : {n : ℕ} → printing.NoRoom ≡ printing.Printed n → ⊥
-no-room e = let z : _≡_ {A = ℕ} 0 1 = cc in omega arith
-
-pub bytes-printed : {m n : ℕ} → printing.Printed m ≡ printing.Printed n → m ≡ n
-bytes-printed e = cc

@@ -1,4 +1,4 @@
--- Laws of the printed line: its length, its parts, and that it is one line of a text. Assumes nothing.
+-- Laws of the printed line: its length, its parts, that it is one line of a text, and what printing answers. Assumes nothing.
 use Prim.Native.Nat.{ℕ, _+_, _/_, _%_, _^_, _≤_, _<_}
 use mathlib.Core.Path.{_≡_, refl, ap, sym, _∙_}
 use mathlib.Core.Bool.{Bool, true, false}
@@ -14,6 +14,7 @@ use Rattle.base.proofs.LinesLaws.{split-whole}
 use Rattle.base.proofs.ListLaws.{has-append}
 use Rattle.job.specs.Line.{identityOf}
 use Rattle.job.specs.Print.{headOf, spaced, ending, printed}
+use Rattle.job.specs.declared.Printing.the-variants.{Printed, NoRoom}
 
 pub spaced-none : (ds : List ℕ) → length ds ≡ 0 → spaced ds ≡ []
 spaced-none [] h = refl
@@ -102,3 +103,11 @@ module _ (identity kind : ℕ) (ds : List ℕ) where
   unended-identity cut h =
       let none : identity / 16 ^ 6 ≡ 0 = omega arith in
       six cut ∙ ap (λ (n : ℕ). hexNumber n (digitsOf 6 identity)) (sym none) ∙ digits-back 6 identity
+
+-- ---- what printing answers
+
+pub no-room-printed : {n : ℕ} → NoRoom ≡ Printed n → ⊥
+no-room-printed e = let z : _≡_ {A = ℕ} 0 1 = cc in omega arith
+
+pub bytes-printed : {m n : ℕ} → Printed m ≡ Printed n → m ≡ n
+bytes-printed e = cc

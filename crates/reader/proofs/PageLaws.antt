@@ -188,9 +188,3 @@ module _ (symbols : List ℕ) (a s : ℕ) (cut : Bool) where
     page-printed old out d r a o =
         let there = heard-whole old out heard (omega (arith, count)) (omega (arith, count)) a o in
         (there .0 ∙ ap (λ (l : List ℕ). Printed (length l)) page-line, there .1 ∙ ap (over out) page-line)
-
-pub no-room-printed : {n : ℕ} → NoRoom ≡ Printed n → ⊥
-no-room-printed e = let z : _≡_ {A = ℕ} 0 1 = cc in omega arith
-
-pub bytes-printed : {m n : ℕ} → Printed m ≡ Printed n → m ≡ n
-bytes-printed e = cc

@@ -4,8 +4,9 @@ use Prim.Native.Nat.{ℕ, _+_}
 use lib.Seq.{length-take-le}
 use denote.Ref.{now}
 use borrow.Author.Needs.{needs}
+use Rattle.job.proofs.PrintLaws.{no-room-printed, bytes-printed}
 use Rattle.follower.specs.Progress.{Ran, Printed}
-use Rattle.follower.proofs.Printing.{collected-inside, page-printed, page-line, no-room, bytes-printed}
+use Rattle.follower.proofs.Printing.{collected-inside, page-printed, page-line}
 use Rattle.follower.proofs.follow_page.Statement.{statement}
 use Rattle.follower.proofs.follow_page.Tie as tie
 
@@ -52,7 +53,7 @@ returns : tie.Need-returns
 returns c =
     let a = c .before .before .before .before .before .before .before .before .before .before .before .before .before .before .before .before .before .before .args in
     absurd
-    (no-room (sym (c .enum-told .given .1)
+    (no-room-printed (sym (c .enum-told .given .1)
     ∙ page-printed (a .identity) (a .function) (now (a .words)) (a .s) _ _ (ran (c .before .before .before .before .before .before .before .before .before .before .before .before)) (now (a .digits)) (now (a .out)) (c .before .before .before .before .before .before .before .before .before .before .before .before .before .before .before .before .before .before .pre) (c .before .before .before .before .before .before .print-heard .ensures .0)))
 
 same-length-4 : tie.Need-same-length-4

@@ -7,10 +7,11 @@ use denote.Ref.{now}
 use borrow.Author.Needs.{needs}
 use Rattle.base.specs.Lists.{over}
 use Rattle.job.specs.declared.Printing.the-variants.{Printed}
+use Rattle.job.proofs.PrintLaws.{no-room-printed, bytes-printed}
 use Rattle.reader.specs.Reading.{closedAs}
 use Rattle.reader.specs.Lines.{lineHeard}
 use Rattle.reader.specs.Symbols.{pageIn}
-use Rattle.reader.proofs.PageLaws.{page-printed, no-room-printed, bytes-printed}
+use Rattle.reader.proofs.PageLaws.{page-printed}
 use Rattle.reader.proofs.print_page.Statement.{statement}
 use Rattle.reader.proofs.print_page.Tie as tie
 
