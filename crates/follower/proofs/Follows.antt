@@ -15,7 +15,7 @@ use Rattle.job.specs.Line.{isReserved}
 use Rattle.placement.specs.Placement.{frameOf}
 use Rattle.reader.specs.Meaning.{flagClear, codewordMeaning, meaning}
 use Rattle.reader.specs.Reading as reading
-use Rattle.reader.specs.Reading.{Hearing, opened, extended, closedAs, close, hear, readAt, slotWord, heardIn}
+use Rattle.reader.specs.Reading.{Hearing, opened, extended, closedAs, close, hear, readAt, slotWord, heardStretch, heardIn}
 use Rattle.reader.specs.declared.Meaning.{Meaning}
 use Rattle.reader.specs.declared.Meaning.the-variants.{Lost, Idle, Address, Message}
 use Rattle.follower.specs.Pages.{ofIdentity, pagesFor}
@@ -161,7 +161,7 @@ module _ (word : ℕ → ℕ) where
       ∙ ap₂ _++_ (opened-own i s k m (λ u f e. addressed (nearest (word s)) u f e .low)) (own-pages i k (suc s))
 
 pub follows : (i : ℕ) (words : List ℕ) → Follows i words
-unfolding heardIn pagesFor
+unfolding heardStretch pagesFor
 follows i words =
     let all : heardIn words .pages ≡ pagesFrom (slotWord words) 0 (slotCount words) = all-pages (slotWord words) (slotCount words) in
     record { all = all; own = ap (ofIdentity i) all ∙ own-pages (slotWord words) i (slotCount words) 0 }

@@ -15,7 +15,7 @@ use Rattle.listing.specs.Words.{wordsOf}
 use Rattle.reader.specs.Reading.{Hearing, heardIn}
 use Rattle.reader.specs.Lines.{lineHeard, linesHeard}
 use Rattle.reader.specs.Answers as reading
-use Rattle.reader.specs.Answers.{judgeWords, judgeListing, printedInto, answered, readWords, readListing}
+use Rattle.reader.specs.Answers.{judgeWords, judgeListing, printedInto, answered, readStretch, readListing}
 use Rattle.reader.specs.declared.Verdict.{Verdict}
 use Rattle.reader.specs.declared.Verdict.the-variants.{Sound, Faulty}
 use Rattle.reader.proofs.Laws as reader
@@ -64,7 +64,7 @@ module _ (i : ℕ) (words : List ℕ) (room : ℕ) (large : 48000 ≤ room) wher
       go false false e = verdict-fits v h e
 
 words-fit : (i : ℕ) (words : List ℕ) (room : ℕ) → 48000 ≤ room → numberOf (followWords i words room) ≡ 10 → ⊥
-unfolding followWords readWords
+unfolding followWords readStretch
 words-fit i words room l = judged-fits i words room l (judgeWords words) (reader.enough .of-words words 48000 (omega arith))
 
 listing-fits : (i : ℕ) (s : List ℕ) (room : ℕ) → 48000 ≤ room → numberOf (followListing i s room) ≡ 10 → ⊥

@@ -47,7 +47,7 @@ module _ (lost : ℕ → Bool) (xs : List Sending) (framed : Framed (placementOf
 
   -- behind the last slot there is nothing to lose
   pub heard-along : (changes : Changes) → n ≡ 16 * batches (placementOf xs) → lost n ≡ false
-      → ended (readAt word n) changes ≡ heardBut lost xs changes
+      → ended false (readAt word n) changes ≡ heardBut lost xs changes
   unfolding heardBut order
   heard-along changes e z =
       let job = placementOf xs in

@@ -1,9 +1,8 @@
 -- What the answers give where it is known what is heard, of words and of a listing. Assumes nothing.
-use mathlib.Core.Path.{_≡_, refl, sym, ap, ap₂, _∙_}
-use mathlib.Core.Bool.{false}
+use mathlib.Core.Path.{_≡_, refl, ap, ap₂}
 use mathlib.Core.List.{List, [], _∷_, _++_, map, flatMap}
 use mathlib.Core.Logic.{⊎-elim}
-use Prim.Native.Nat.{ℕ, suc, _*_, _/_, _≤_, _<_, zero-le, suc-le-suc}
+use Prim.Native.Nat.{ℕ, suc, _<_, zero-le, suc-le-suc}
 use native.Mathlib.Omega.{arith}
 use lib.ListN.{length, getD, drop, List·getD-eq-default}
 use borrow.Author.Tests.{lt-ltb, le-ltb}
@@ -19,10 +18,9 @@ use Rattle.listing.specs.ReadBack.{OfBatches, ReadBack}
 use Rattle.listing.proofs.Back.{read-back}
 use Rattle.reader.specs.Reading.{Hearing, Heard, heardIn}
 use Rattle.reader.specs.Lines.{lineHeard, linesHeard}
-use Rattle.reader.specs.Answers.{unsynced, firstUnsynced, judgeBatches, judgeWords, judgeListing, printedInto, readWords, readListing}
+use Rattle.reader.specs.Answers.{judgeListing, printedInto, readStretch, readWords, readListing}
 use Rattle.reader.specs.declared.Reading.{Reading}
-use Rattle.reader.specs.declared.Verdict.the-variants.{Sound}
-use Rattle.reader.proofs.AnswerLaws.{none-unsynced, batches-sound, words-few}
+use Rattle.reader.proofs.Laws.{sound-batches, sound-words}
 use Rattle.guarantees.specs.Transport.{Received, HeardAs}
 use Rattle.guarantees.specs.Gives.{Gives}
 use Rattle.guarantees.proofs.Received.{size}
@@ -34,17 +32,6 @@ unfolding linesHeard flatMap
 lines-are f line [] h = refl
 lines-are f line (p ∷ ps) h =
     ap₂ (λ (x y : List ℕ). x ++ y) (h 0 (suc-le-suc zero-le)) (lines-are f line ps (λ k l. h (suc k) (suc-le-suc l)))
-
--- ---- whole batches that all begin with sync can be read
-
-module _ (words : List ℕ) (b : ℕ) (e : length words ≡ 17 * b) (synced : (q : ℕ) → q < b → unsynced words q ≡ false) where
-  sound-batches : judgeBatches words ≡ Sound
-  sound-batches =
-      let all : length words / 17 ≡ firstUnsynced words = none-unsynced words (length words / 17) refl (λ q l. synced q (omega arith)) in
-      sym (batches-sound words (omega arith))
-
-  sound-words : 1 ≤ b → b ≤ 300 → judgeWords words ≡ Sound
-  sound-words some few = sym (words-few words (λ z. omega arith) (omega arith) (omega arith)) ∙ sound-batches
 
 -- ---- an answer by its room
 
@@ -73,8 +60,8 @@ module _ (xs : List Sending) (a : AllAllowed xs) (most : ℕ) (words : List ℕ)
   given = ap (λ (x : Heard). printedInto x room) (t .heard)
 
   words-given : readWords (drop 18 words) room ≡ printedInto h room
-  unfolding readWords
-  words-given = rw (sound-words (drop 18 words) b (t .whole) (t .synced) (batches-least a) (sendings-limits a .most)) given
+  unfolding readStretch
+  words-given = rw (sound-words (drop 18 words) b (batches-least a) (sendings-limits a .most) (t .whole) (t .synced)) given
 
   of-batches : OfBatches words b
   of-batches =

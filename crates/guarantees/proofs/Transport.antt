@@ -15,7 +15,7 @@ use Rattle.transmission.specs.Sending.{Sending, sendingAt, placementOf, AllAllo
 use Rattle.transmission.specs.Transmission.{transmissionOf}
 use Rattle.transmission.specs.Transmitted.{slotIndex}
 use Rattle.transmission.proofs.Sendings.{words-at, sendable, sendings-placed}
-use Rattle.reader.specs.Reading.{readAt, ended, slotWord, heardIn}
+use Rattle.reader.specs.Reading.{readAt, ended, slotWord, heardStretch}
 use Rattle.reader.specs.declared.Changes.{Changes}
 use Rattle.guarantees.specs.Order.{order}
 use Rattle.guarantees.specs.Transport.{flipCount, lostAt, flipsIn, flipsBut, isRead, reach, hearingIn, orphaned, heardBut, Transport, hearingOf, asSent, WholeTransport}
@@ -24,7 +24,7 @@ use Rattle.guarantees.proofs.Along.{heard-along}
 
 -- each page whose address is read is heard up to its first lost word, with up to three flips in a codeword
 pub heard-but : Transport
-unfolding heardIn
+unfolding heardStretch
 heard-but xs a most few words rec =
     let lost = lostAt (transmissionOf xs) words in
     let size : 16 * (length (drop 18 words) / 17) ≡ 16 * batches (placementOf xs) = omega (arith, behind-size xs most words rec) in
@@ -33,7 +33,7 @@ heard-but xs a most few words rec =
       whole = behind-size xs most words rec;
       synced = all-synced xs most words rec;
       heard =
-          ap (ended (readAt (slotWord (drop 18 words)) n)) (all-changed xs most words rec a few)
+          ap (ended false (readAt (slotWord (drop 18 words)) n)) (all-changed xs most words rec a few)
           ∙ heard-along lost xs (sendable a .framed) (slotWord (drop 18 words)) n (λ s l. says-slot xs most words rec s (omega arith) a few)
           (flipsBut lost xs words) size
           (le-ltb 2 (flipCount (transmissionOf xs) words (slotIndex n)) (omega (arith, outside xs most words rec n (omega arith))));

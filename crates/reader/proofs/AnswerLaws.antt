@@ -18,10 +18,10 @@ use Rattle.listing.specs.Answers.{decodedOf}
 use Rattle.listing.proofs.Indexed.{formed}
 use Rattle.listing.proofs.Settled.{front}
 use Rattle.reader.specs.Meaning.{meaning}
-use Rattle.reader.specs.Reading.{hear, readAt, ended, slotWord, changesIn, heardIn}
+use Rattle.reader.specs.Reading.{hear, readAt, ended, slotWord, changesIn, heardStretch}
 use Rattle.reader.specs.Lines.{linesHeard}
 use Rattle.reader.specs.Answers.{unsynced, firstUnsynced, judgeBatches, judgeWords, judgeDecoded, judgeListing, printedInto}
-use Rattle.reader.specs.Readable.{Readable, batchesFirst, Decoding, AllReadable}
+use Rattle.reader.specs.Readable.{Readable, batchesFirst, Decoding, AllReadable, SoundBatches, SoundWords}
 use Rattle.reader.specs.Symbols.{said, Tells, stateBy, heardBy}
 use Rattle.reader.specs.Progress.{KeptAll}
 use Rattle.reader.specs.declared.Changes.{Changes}
@@ -44,18 +44,18 @@ module _ (words : List ℕ) (q : ℕ) where
 
 -- ---- the lines of all slots, printed into a buffer of their own
 
-module _ {symbols : List ℕ} {p : Progress} {lines : List ℕ} (k : KeptAll symbols p lines) where
+module _ (cut : Bool) {symbols : List ℕ} {p : Progress} {lines : List ℕ} (k : KeptAll cut symbols p lines) where
   module _ (old : List ℕ) (changed : Changes) where
     -- they are longer than the lent slice
-    pub no-room : length old < p .bytes → NoRoom ≡ printedInto (heardBy symbols changed) (length old)
-    no-room h = rw (lt-ltb (length old) (length (linesHeard (heardBy symbols changed .pages))) (omega (arith, k .size)))
+    pub no-room : length old < p .bytes → NoRoom ≡ printedInto (heardBy cut symbols changed) (length old)
+    no-room h = rw (lt-ltb (length old) (length (linesHeard (heardBy cut symbols changed .pages))) (omega (arith, k .size)))
 
     -- they go over its front
     pub all-read : p .bytes ≤ length old
-        → Read (p .pages) (p .lost) (p .orphans) changed (p .bytes) ≡ printedInto (heardBy symbols changed) (length old)
+        → Read (p .pages) (p .lost) (p .orphans) changed (p .bytes) ≡ printedInto (heardBy cut symbols changed) (length old)
     all-read h =
         rw (
-          le-ltb (length old) (length (linesHeard (heardBy symbols changed .pages))) (omega (arith, k .size)),
+          le-ltb (length old) (length (linesHeard (heardBy cut symbols changed .pages))) (omega (arith, k .size)),
           k .pages,
           k .lost,
           k .orphans,
@@ -72,11 +72,11 @@ state-same symbols word zero h = refl
 state-same symbols word (suc n) h = ap₂ (hear n) (state-same symbols word n (λ s l. h s (omega arith))) (h n (omega arith))
 
 module _ (words : List ℕ) where
-  pub heard-same : (symbols : List ℕ) (changed : Changes) → Tells words (16 * (length words / 17)) symbols → changed ≡ changesIn words
-      → heardBy symbols changed ≡ heardIn words
-  unfolding heardIn
-  heard-same symbols changed t e =
-      ap₂ ended (ap (stateBy symbols) (t .count) ∙ state-same symbols (slotWord words) (16 * (length words / 17)) (t .each)) e
+  pub heard-same : (cut : Bool) (symbols : List ℕ) (changed : Changes) → Tells words (16 * (length words / 17)) symbols
+      → changed ≡ changesIn words → heardBy cut symbols changed ≡ heardStretch cut words
+  unfolding heardStretch
+  heard-same cut symbols changed t e =
+      ap₂ (ended cut) (ap (stateBy symbols) (t .count) ∙ state-same symbols (slotWord words) (16 * (length words / 17)) (t .each)) e
 
 -- ---- whether words can be read
 
@@ -106,6 +106,15 @@ module _ (words : List ℕ) where
       pub words-few : length words / 17 ≤ 300 → judgeBatches words ≡ judgeWords words
       unfolding judgeWords
       words-few h = rw (ne-eqb (length words) 0 some, eq-eqb (length words % 17) 0 whole, le-ltb 300 (length words / 17) h)
+
+pub sound-batches : SoundBatches
+sound-batches words b e synced =
+    let all : length words / 17 ≡ firstUnsynced words = none-unsynced words (length words / 17) refl (λ q l. synced q (omega arith)) in
+    sym (batches-sound words (omega arith))
+
+pub sound-words : SoundWords
+sound-words words b some few e synced =
+    sym (words-few words (λ z. omega arith) (omega arith) (omega arith)) ∙ sound-batches words b e synced
 
 -- ---- words that can be read
 

@@ -12,7 +12,7 @@ use Rattle.base.specs.Lists.{over}
 use Rattle.base.proofs.ListLaws.{over-part, over-length}
 use Rattle.text.specs.Fives.{fives}
 use Rattle.reader.specs.Reading.{Hearing}
-use Rattle.reader.specs.Lines.{lineHeard, linesHeard, LinesMore}
+use Rattle.reader.specs.Lines.{lineHeard, linesHeard, LinesAppend, LinesMore}
 
 pub flat-append : {A : Type 0} (f : A → List ℕ) (xs ys : List A) → flatMap f (xs ++ ys) ≡ flatMap f xs ++ flatMap f ys
 unfolding flatMap
@@ -83,5 +83,9 @@ unfolding linesHeard flatMap
 lines-flat [] = refl
 lines-flat (h ∷ hs) = ap (λ (l : List ℕ). lineHeard h ++ l) (lines-flat hs)
 
+pub lines-append : LinesAppend
+lines-append hs gs = rw (lines-flat (hs ++ gs), lines-flat hs, lines-flat gs) (flat-append lineHeard hs gs)
+
 pub lines-more : LinesMore
-lines-more hs h = lines-flat (hs ++ (h ∷ [])) ∙ flat-append lineHeard hs (h ∷ []) ∙ rw (flat-one lineHeard h, lines-flat hs)
+unfolding linesHeard
+lines-more hs h = lines-append hs (h ∷ []) ∙ ap (λ (l : List ℕ). linesHeard hs ++ l) (append-nil (lineHeard h))

@@ -1,5 +1,5 @@
 -- What reading words or a listing answers, and what it leaves in the lent slice of bytes.
-use mathlib.Core.Bool.{Bool, not, cond, _||_}
+use mathlib.Core.Bool.{Bool, false, not, cond, _||_}
 use mathlib.Core.List.{List, []}
 use Prim.Native.Nat.{ℕ, _+_, _/_, _%_}
 use lib.ListN.{length}
@@ -13,7 +13,7 @@ use Rattle.listing.specs.declared.Fault.the-variants as listing-fault
 use Rattle.listing.specs.declared.Listing.{Listing}
 use Rattle.listing.specs.declared.Listing.the-variants as listing
 use Rattle.reader.specs.Meaning.{isSync}
-use Rattle.reader.specs.Reading.{Heard, syncWord, heardIn}
+use Rattle.reader.specs.Reading.{Heard, syncWord, heardStretch, heardIn}
 use Rattle.reader.specs.Lines.{linesHeard}
 use Rattle.reader.specs.declared.Changes.{Changes}
 use Rattle.reader.specs.declared.Fault.{Fault}
@@ -71,9 +71,13 @@ abbrev pub answered : Verdict → Heard → ℕ → Reading
 answered (Faulty why) h room = Declined why
 answered Sound h room = printedInto h room
 
--- reading a slice of words: 21, 23, 22, then 10
-unfoldable pub readWords : List ℕ → ℕ → Reading
-readWords words room = answered (judgeWords words) (heardIn words) room
+-- reading a slice of words whose end closes an open page, cut short or not: 21, 23, 22, then 10 (R-10)
+unfoldable pub readStretch : Bool → List ℕ → ℕ → Reading
+readStretch cut words room = answered (judgeWords words) (heardStretch cut words) room
+
+-- reading a slice of words: document 01's end does not cut
+abbrev pub readWords : List ℕ → ℕ → Reading
+readWords words room = readStretch false words room
 
 -- reading a listing: 21 or 23, then 22, then 10
 unfoldable pub readListing : List ℕ → ℕ → Reading

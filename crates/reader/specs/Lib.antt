@@ -5,5 +5,6 @@ pub mod Lines
 pub mod Answers
 pub mod Readable
 pub mod Enough
+pub mod Most
 pub mod Symbols
 pub mod Progress

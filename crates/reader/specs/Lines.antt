@@ -31,6 +31,10 @@ unfoldable pub linesHeard : List Hearing → List ℕ
 linesHeard [] = []
 linesHeard (h ∷ hs) = lineHeard h ++ linesHeard hs
 
+-- the lines of pages behind others stand behind theirs. `lines-append` in proofs/Blocks.antt proves it
+abbrev pub LinesAppend : Type 0
+LinesAppend = (hs gs : List Hearing) → linesHeard (hs ++ gs) ≡ linesHeard hs ++ linesHeard gs
+
 -- the line of one page more stands behind the others. `lines-more` in proofs/Blocks.antt proves it
 abbrev pub LinesMore : Type 0
 LinesMore = (hs : List Hearing) (h : Hearing) → linesHeard (hs ++ (h ∷ [])) ≡ linesHeard hs ++ lineHeard h

@@ -1,6 +1,6 @@
 -- What the code keeps of a reading before a slot, and what holds of it. No public promise needs this. `Progress` is src/lib.rt's struct.
 use mathlib.Core.Path.{_≡_}
-use mathlib.Core.Bool.{Bool, false, cond}
+use mathlib.Core.Bool.{Bool, cond}
 use mathlib.Core.List.{List}
 use mathlib.Core.Option.{Option, none, some}
 use Prim.Native.Nat.{ℕ, _+_, _*_, _/_, _^_, _≤_, _<_}
@@ -72,6 +72,6 @@ pub record Quiet (p : Progress) (symbols : List ℕ) (s e : ℕ) : Type 0 where
   pub idles : Idles symbols s e
   pub shut : s < e → p .held ≡ 0
 
--- all slots are heard, and the end has closed the open page
-abbrev pub KeptAll : List ℕ → Progress → List ℕ → Type 0
-KeptAll symbols p lines = Kept symbols (length symbols) (closed false (stateBy symbols (length symbols))) p lines
+-- all slots are heard, and the end has closed the open page, cut short or not
+abbrev pub KeptAll : Bool → List ℕ → Progress → List ℕ → Type 0
+KeptAll cut symbols p lines = Kept symbols (length symbols) (closed cut (stateBy symbols (length symbols))) p lines

@@ -1,13 +1,14 @@
--- What holds of words that can be read. `readable` in proofs/AnswerLaws.antt proves it.
+-- What holds of words that can be read, and when they can. `readable` in proofs/AnswerLaws.antt proves it.
 use mathlib.Core.Path.{_≡_}
+use mathlib.Core.Bool.{false}
 use mathlib.Core.List.{List}
-use Prim.Native.Nat.{ℕ, _*_, _/_, _≤_}
+use Prim.Native.Nat.{ℕ, _*_, _/_, _≤_, _<_}
 use lib.ListN.{length, take}
 use Rattle.listing.specs.Answers.{batchesOf, decodedOf}
 use Rattle.listing.specs.Words.{wordsOf}
 use Rattle.listing.specs.declared.Decoded.{Decoded}
 use Rattle.listing.specs.declared.Listing.{Listing}
-use Rattle.reader.specs.Answers.{firstUnsynced, judgeWords, judgeDecoded, judgeListing}
+use Rattle.reader.specs.Answers.{unsynced, firstUnsynced, judgeBatches, judgeWords, judgeDecoded, judgeListing}
 use Rattle.reader.specs.declared.Verdict.the-variants.{Sound}
 
 -- at most 300 batches, which all begin with sync
@@ -32,3 +33,13 @@ pub record AllReadable : Type 0 where
   pub of-decoded : (s : List ℕ) {d : Decoded} → d ≡ decodedOf s → Decoding (d .listing) (d .words)
   pub first : (s : List ℕ) {d : Decoded} → d ≡ decodedOf s → batchesFirst (d .listing) (d .words) ≡ wordsOf s
   pub verdict : (s : List ℕ) {d : Decoded} → d ≡ decodedOf s → judgeDecoded (d .listing) (wordsOf s) ≡ judgeListing s
+
+-- whole batches that all begin with sync can be read. `sound-batches` and `sound-words` in proofs/AnswerLaws.antt prove it
+abbrev pub SoundBatches : Type 0
+SoundBatches =
+    (words : List ℕ) (b : ℕ) → length words ≡ 17 * b → ((q : ℕ) → q < b → unsynced words q ≡ false) → judgeBatches words ≡ Sound
+
+abbrev pub SoundWords : Type 0
+SoundWords =
+    (words : List ℕ) (b : ℕ) → 1 ≤ b → b ≤ 300 → length words ≡ 17 * b → ((q : ℕ) → q < b → unsynced words q ≡ false)
+    → judgeWords words ≡ Sound

@@ -71,9 +71,9 @@ pub record Heard : Type 0 where
   pub orphans : ℕ
   pub changed : Changes
 
--- the end closes an open page
-abbrev pub ended : State → Changes → Heard
-ended r changes = record { pages = close false (r .pages) (r .held); lost = r .lost; orphans = r .orphans; changed = changes }
+-- the end closes an open page, cut short or not
+abbrev pub ended : Bool → State → Changes → Heard
+ended cut r changes = record { pages = close cut (r .pages) (r .held); lost = r .lost; orphans = r .orphans; changed = changes }
 
 -- the word of slot s in batches of 17 words, sync first
 abbrev pub slotWord : List ℕ → ℕ → ℕ
@@ -90,6 +90,10 @@ changesIn words = record {
   syncs = syncsChanged (syncWord words) (length words / 17);
 }
 
--- what is heard of whole batches
-unfoldable pub heardIn : List ℕ → Heard
-heardIn words = ended (readAt (slotWord words) (16 * (length words / 17))) (changesIn words)
+-- what is heard of whole batches, one directly behind the other, whose end closes an open page, cut short or not (R-10)
+unfoldable pub heardStretch : Bool → List ℕ → Heard
+heardStretch cut words = ended cut (readAt (slotWord words) (16 * (length words / 17))) (changesIn words)
+
+-- what is heard of whole batches: document 01's end does not cut
+abbrev pub heardIn : List ℕ → Heard
+heardIn words = heardStretch false words

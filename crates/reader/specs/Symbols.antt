@@ -1,6 +1,6 @@
 -- How the code keeps what a slot's word says: in one number, its symbol. No public promise needs this.
 use mathlib.Core.Path.{_≡_}
-use mathlib.Core.Bool.{false, cond}
+use mathlib.Core.Bool.{Bool, false, cond}
 use mathlib.Core.List.{List, map}
 use Prim.Native.Nat.{ℕ, zero, suc, _+_, _-_, _*_, _/_, _%_, _^_, _≤_, _<_}
 use lib.Dec.{eqb, ltb}
@@ -31,9 +31,9 @@ unfoldable pub stateBy : List ℕ → ℕ → State
 stateBy symbols zero = silent
 stateBy symbols (suc s) = hear s (stateBy symbols s) (said (getD symbols s 0))
 
--- what is heard of slots with these symbols, with so many bits changed
-abbrev pub heardBy : List ℕ → Changes → Heard
-heardBy symbols changes = ended (stateBy symbols (length symbols)) changes
+-- what is heard of slots with these symbols, with so many bits changed, whose end closes an open page, cut short or not
+abbrev pub heardBy : Bool → List ℕ → Changes → Heard
+heardBy cut symbols changes = ended cut (stateBy symbols (length symbols)) changes
 
 -- the groups that message words with these symbols carry
 abbrev pub groupsSaid : List ℕ → List ℕ

@@ -9,9 +9,9 @@ ghost use Rattle.text.specs.Answer.{heardDigits};
 ghost use Rattle.text.specs.Fives.{fives};
 ghost use Rattle.reader.specs.Meaning.{codewordMeaning, meaning, isSync};
 ghost use Rattle.reader.specs.Changed.{unlessLost, slotChanged, slotsChanged, syncsChanged};
-ghost use Rattle.reader.specs.Reading.{closedAs, slotWord, syncWord, heardIn};
+ghost use Rattle.reader.specs.Reading.{closedAs, slotWord, syncWord, heardStretch, heardIn};
 ghost use Rattle.reader.specs.Lines.{kindHeard, digitsHeard, lineHeard, heardPage, printingHeard, digitsWritten, lineWritten};
-ghost use Rattle.reader.specs.Answers.{firstUnsynced, judgeBatches, judgeWords, faultOf, judgeDecoded, printedInto, answered, linesOf, readWords, readListing, linesRead, numberOf, placeOf};
+ghost use Rattle.reader.specs.Answers.{firstUnsynced, judgeBatches, judgeWords, faultOf, judgeDecoded, printedInto, answered, linesOf, readStretch, readWords, readListing, linesRead, numberOf, placeOf};
 ghost use Rattle.reader.specs.Readable.{Readable, batchesFirst, Decoding};
 ghost use Rattle.reader.specs.Symbols.{said, Tells, stateBy, heardBy, pageIn, Printable};
 ghost use Rattle.reader.specs.Progress.{Buffers, Room, Messages, Idles, Quiet, withMessages, Kept, KeptAll, closed};
@@ -143,7 +143,7 @@ fn read_word(engine: Engine, word: u32) -> ReadWord
 }
 
 // Whether a word corrects to sync: whether at most two bits differ.
-fn is_sync(word: u32) -> bool
+pub fn is_sync(word: u32) -> bool
     ensures { λ r. ⌜ r ≡ isSync (nearest word) ⌝ }
 {
     codeword::sync_distance(word) <= 2
@@ -447,11 +447,11 @@ fn quiet_end(p: Progress, symbols: &[u32], s: usize) -> usize
     idle_end(symbols, s)
 }
 
-// Hears all slots: the lines of their pages are printed over the front of the lent lines. Runs of message words, and of idle words
-// with no page open, are passed over in one go.
-fn hear_all(symbols: &[u32], digits: &mut [u8], lines: &mut [u8]) -> Progress
+// Hears all slots: the lines of their pages are printed over the front of the lent lines. The end closes an open page, cut short or
+// not. Runs of message words, and of idle words with no page open, are passed over in one go.
+fn hear_all(symbols: &[u32], cut: bool, digits: &mut [u8], lines: &mut [u8]) -> Progress
     requires { ⌜ Buffers (now symbols) (now digits) (now lines) ⌝ }
-    ensures { λ r. ⌜ KeptAll (now (symbols .entry)) r (now (lines .exit)) ⌝ }
+    ensures { λ r. ⌜ KeptAll cut (now (symbols .entry)) r (now (lines .exit)) ⌝ }
 {
     let mut p = Progress {
         held: 0,
@@ -466,7 +466,7 @@ fn hear_all(symbols: &[u32], digits: &mut [u8], lines: &mut [u8]) -> Progress
         p = hear_messages(p, e - s);
         let f = quiet_end(p, symbols, e);
         if symbols.len() <= f {
-            return close(p, symbols, f, false, digits, lines);
+            return close(p, symbols, f, cut, digits, lines);
         }
         p = hear(p, symbols, f, digits, lines);
         s = f + 1;
@@ -477,16 +477,17 @@ fn hear_all(symbols: &[u32], digits: &mut [u8], lines: &mut [u8]) -> Progress
 // for all of them.
 fn read_into(
     symbols: &[u32],
+    cut: bool,
     changed: Changes,
     digits: &mut [u8],
     lines: &mut [u8],
     out: &mut [u8],
 ) -> Reading
     requires { ⌜ Buffers (now symbols) (now digits) (now lines) ⌝ }
-    ensures { λ r. ⌜ r ≡ printedInto (heardBy (now (symbols .entry)) changed) (length (now (out .entry))) ⌝ }
-    ensures { λ r. ⌜ now (out .exit) ≡ over (now (out .entry)) (linesOf r (heardBy (now (symbols .entry)) changed)) ⌝ }
+    ensures { λ r. ⌜ r ≡ printedInto (heardBy cut (now (symbols .entry)) changed) (length (now (out .entry))) ⌝ }
+    ensures { λ r. ⌜ now (out .exit) ≡ over (now (out .entry)) (linesOf r (heardBy cut (now (symbols .entry)) changed)) ⌝ }
 {
-    let p = hear_all(symbols, digits, lines);
+    let p = hear_all(symbols, cut, digits, lines);
     let n = p.bytes;
     if out.len() < n {
         return Reading::NoRoom;
@@ -505,67 +506,84 @@ fn read_into(
 fn read_synced(
     engine: Engine,
     words: &[u32],
+    cut: bool,
     symbols: &mut [u32],
     digits: &mut [u8],
     lines: &mut [u8],
     out: &mut [u8],
 ) -> Reading
     requires { ⌜ Room (now words) (length (now symbols)) (length (now digits)) (length (now lines)) ⌝ }
-    ensures { λ r. ⌜ r ≡ printedInto (heardIn (now (words .entry))) (length (now (out .entry))) ⌝ }
-    ensures { λ r. ⌜ now (out .exit) ≡ over (now (out .entry)) (linesRead r (now (words .entry))) ⌝ }
+    ensures { λ r. ⌜ r ≡ printedInto (heardStretch cut (now (words .entry))) (length (now (out .entry))) ⌝ }
+    ensures { λ r. ⌜ now (out .exit) ≡ over (now (out .entry)) (linesOf r (heardStretch cut (now (words .entry)))) ⌝ }
 {
     let slots = 16 * (words.len() / 17);
     let changed = Changes {
         slots: read_slots(engine, words, &mut symbols[..slots]),
         syncs: syncs_changed(words),
     };
-    read_into(&symbols[..slots], changed, digits, lines, out)
+    read_into(&symbols[..slots], cut, changed, digits, lines, out)
 }
 
 // Reads at most 16 batches that all begin with sync: to clear the room for 300 would take longer than to read these.
-fn read_few(engine: Engine, words: &[u32], out: &mut [u8]) -> Reading
+fn read_few(engine: Engine, words: &[u32], cut: bool, out: &mut [u8]) -> Reading
     requires { ⌜ Room (now words) 256 2560 2816 ⌝ }
-    ensures { λ r. ⌜ r ≡ printedInto (heardIn (now (words .entry))) (length (now (out .entry))) ⌝ }
-    ensures { λ r. ⌜ now (out .exit) ≡ over (now (out .entry)) (linesRead r (now (words .entry))) ⌝ }
+    ensures { λ r. ⌜ r ≡ printedInto (heardStretch cut (now (words .entry))) (length (now (out .entry))) ⌝ }
+    ensures { λ r. ⌜ now (out .exit) ≡ over (now (out .entry)) (linesOf r (heardStretch cut (now (words .entry)))) ⌝ }
 {
     let mut symbols = [0u32; 256];
     let mut digits = [0u8; 2560];
     let mut lines = [0u8; 2816];
-    read_synced(engine, words, &mut symbols, &mut digits, &mut lines, out)
+    read_synced(
+        engine,
+        words,
+        cut,
+        &mut symbols,
+        &mut digits,
+        &mut lines,
+        out,
+    )
 }
 
 // Reads at most 300 batches that all begin with sync.
-fn read_many(engine: Engine, words: &[u32], out: &mut [u8]) -> Reading
+fn read_many(engine: Engine, words: &[u32], cut: bool, out: &mut [u8]) -> Reading
     requires { ⌜ Room (now words) 4800 48000 52800 ⌝ }
-    ensures { λ r. ⌜ r ≡ printedInto (heardIn (now (words .entry))) (length (now (out .entry))) ⌝ }
-    ensures { λ r. ⌜ now (out .exit) ≡ over (now (out .entry)) (linesRead r (now (words .entry))) ⌝ }
+    ensures { λ r. ⌜ r ≡ printedInto (heardStretch cut (now (words .entry))) (length (now (out .entry))) ⌝ }
+    ensures { λ r. ⌜ now (out .exit) ≡ over (now (out .entry)) (linesOf r (heardStretch cut (now (words .entry)))) ⌝ }
 {
     let mut symbols = [0u32; 4800];
     let mut digits = [0u8; 48000];
     let mut lines = [0u8; 52800];
-    read_synced(engine, words, &mut symbols, &mut digits, &mut lines, out)
+    read_synced(
+        engine,
+        words,
+        cut,
+        &mut symbols,
+        &mut digits,
+        &mut lines,
+        out,
+    )
 }
 
 // Reads words that can be read.
-fn read_sound(engine: Engine, words: &[u32], out: &mut [u8]) -> Reading
+fn read_sound(engine: Engine, words: &[u32], cut: bool, out: &mut [u8]) -> Reading
     requires { ⌜ Readable (now words) ⌝ }
-    ensures { λ r. ⌜ r ≡ printedInto (heardIn (now (words .entry))) (length (now (out .entry))) ⌝ }
-    ensures { λ r. ⌜ now (out .exit) ≡ over (now (out .entry)) (linesRead r (now (words .entry))) ⌝ }
+    ensures { λ r. ⌜ r ≡ printedInto (heardStretch cut (now (words .entry))) (length (now (out .entry))) ⌝ }
+    ensures { λ r. ⌜ now (out .exit) ≡ over (now (out .entry)) (linesOf r (heardStretch cut (now (words .entry)))) ⌝ }
 {
     if words.len() / 17 <= 16 {
-        return read_few(engine, words, out);
+        return read_few(engine, words, cut, out);
     }
-    read_many(engine, words, out)
+    read_many(engine, words, cut, out)
 }
 
 // Reads words by their verdict.
-fn read_judged(engine: Engine, v: Verdict, words: &[u32], out: &mut [u8]) -> Reading
+fn read_judged(engine: Engine, v: Verdict, words: &[u32], cut: bool, out: &mut [u8]) -> Reading
     requires { ⌜ (v ≡ Sound → Readable (now words)) ⌝ }
-    ensures { λ r. ⌜ r ≡ answered v (heardIn (now (words .entry))) (length (now (out .entry))) ⌝ }
-    ensures { λ r. ⌜ now (out .exit) ≡ over (now (out .entry)) (linesRead r (now (words .entry))) ⌝ }
+    ensures { λ r. ⌜ r ≡ answered v (heardStretch cut (now (words .entry))) (length (now (out .entry))) ⌝ }
+    ensures { λ r. ⌜ now (out .exit) ≡ over (now (out .entry)) (linesOf r (heardStretch cut (now (words .entry)))) ⌝ }
 {
     match v {
-        Verdict::Sound => read_sound(engine, words, out),
+        Verdict::Sound => read_sound(engine, words, cut, out),
         Verdict::Faulty(why) => Reading::Declined(why),
     }
 }
@@ -629,7 +647,16 @@ fn read_decoded(engine: Engine, l: listing::Listing, words: &[u32], out: &mut [u
 {
     let n = 17 * listing::batch_count(l);
     let v = judge_decoded(l, &words[..n]);
-    read_judged(engine, v, &words[..n], out)
+    read_judged(engine, v, &words[..n], false, out)
+}
+
+// Reads a slice of words as `read_words` does, but that the end closes an open page as cut short, or not.
+pub fn read_stretch(engine: Engine, words: &[u32], cut: bool, out: &mut [u8]) -> Reading
+    ensures { λ r. ⌜ r ≡ readStretch cut (now (words .entry)) (length (now (out .entry))) ⌝ }
+    ensures { λ r. ⌜ now (out .exit) ≡ over (now (out .entry)) (linesOf r (heardStretch cut (now (words .entry)))) ⌝ }
+{
+    let v = judge_words(words);
+    read_judged(engine, v, words, cut, out)
 }
 
 // Reads a slice of words, batches only: the lines of the pages go to the front of the bytes, and what stands behind them keeps its value.
@@ -638,8 +665,7 @@ pub fn read_words(engine: Engine, words: &[u32], out: &mut [u8]) -> Reading
     ensures { λ r. ⌜ r ≡ readWords (now (words .entry)) (length (now (out .entry))) ⌝ }
     ensures { λ r. ⌜ now (out .exit) ≡ over (now (out .entry)) (linesRead r (now (words .entry))) ⌝ }
 {
-    let v = judge_words(words);
-    read_judged(engine, v, words, out)
+    read_stretch(engine, words, false, out)
 }
 
 // Reads a listing as `read_words` reads its words.

@@ -1,6 +1,5 @@
 -- `reader::hear_all` meets its contract: before each slot what is kept is that of the state. Assumes nothing.
 use mathlib.Core.Path.{_≡_, refl, sym, subst}
-use mathlib.Core.Bool.{false}
 use Prim.Native.Nat.{ℕ, _+_, _-_, _≤_}
 use native.Mathlib.Omega.{arith}
 use lib.ListN.{length}
@@ -15,10 +14,10 @@ use Rattle.reader.proofs.hear_all.Statement.{statement}
 use Rattle.reader.proofs.hear_all.Tie as tie
 
 abbrev Inv-loop : tie.InvT-loop
-Inv-loop symbols digits₀ lines₀ p₀ s₀ digits lines p s = (s ≤ length symbols) × (length digits ≡ length digits₀) × (length lines ≡ length lines₀) × Kept symbols s (stateBy symbols s) p lines
+Inv-loop symbols cut digits₀ lines₀ p₀ s₀ digits lines p s = (s ≤ length symbols) × (length digits ≡ length digits₀) × (length lines ≡ length lines₀) × Kept symbols s (stateBy symbols s) p lines
 
 abbrev μ-loop : tie.MeasureT-loop
-μ-loop symbols digits₀ lines₀ p₀ s₀ digits lines p s = length symbols + 1 - s
+μ-loop symbols cut digits₀ lines₀ p₀ s₀ digits lines p s = length symbols + 1 - s
 
 loop-holds : tie.Need-loop-holds Inv-loop μ-loop
 loop-holds c = (omega arith, refl, refl, kept-none (now (c .before .before .before .args .symbols)) (now (c .before .before .before .args .lines)))
@@ -67,10 +66,11 @@ same-length-2 c = search needs
 returns : tie.Need-returns Inv-loop μ-loop
 returns c =
     let q = c .before .before .before .before .before .before .before .before in
-    let symbols = now (q .before .before .before .before .before .before .before .args .symbols) in
+    let a = q .before .before .before .before .before .before .before .args in
+    let symbols = now (a .symbols) in
     let inside = q .quiet-end .ensures .idles .inside in
     let all : q .quiet-end .result ≡ length symbols = omega arith in
-    subst (λ (s : ℕ). Kept symbols s (closed false (stateBy symbols s)) (c .before .before .before .before .close .result) (c .before .before .before .before .close .last .1 .1 .1 .1 .1 .0)) all (c .before .before .before .before .close .ensures)
+    subst (λ (s : ℕ). Kept symbols s (closed (a .cut) (stateBy symbols s)) (c .before .before .before .before .close .result) (c .before .before .before .before .close .last .1 .1 .1 .1 .1 .0)) all (c .before .before .before .before .close .ensures)
 
 hear-requires : tie.Need-hear-requires Inv-loop μ-loop
 hear-requires c κs =

@@ -10,7 +10,7 @@ use Rattle.reader.proofs.read_into.Statement.{statement}
 use Rattle.reader.proofs.read_into.Tie as tie
 
 -- once all slots are heard
-kept : (c : tie.After-hear-all) → KeptAll (now (c .before .before .before .before .before .before .before .args .symbols)) (c .hear-all .result) (c .hear-all .last .1 .1 .0)
+kept : (c : tie.After-hear-all) → let a = c .before .before .before .before .before .before .before .args in KeptAll (a .cut) (now (a .symbols)) (c .hear-all .result) (c .hear-all .last .1 .1 .1 .0)
 kept c = c .hear-all .ensures
 
 hear-all-requires : tie.Need-hear-all-requires
@@ -25,7 +25,7 @@ same-length-2 c = search needs
 returns : tie.Need-returns
 returns c =
     let a = c .before .before .before .before .before .before .before .before .before .before .before .before .args in
-    (no-room (kept (c .before .before .before .before .before)) (now (a .out)) (a .changed) (c .if1 .taken), refl)
+    (no-room (a .cut) (kept (c .before .before .before .before .before)) (now (a .out)) (a .changed) (c .if1 .taken), refl)
 
 slice-reshare-prefix-copy : tie.Need-slice-reshare-prefix-copy
 slice-reshare-prefix-copy c = let k = kept (c .before .before .before .before .before) in stands-inside _ (k .size) (k .printed)
@@ -50,7 +50,7 @@ returns-2 c =
     let heard = kept (c .before .before .before .before .before .before .before .before .before .before) in
     let a = c .before .before .before .before .before .before .before .before .before .before .before .before .before .before .before .before .before .args in
     let old = now (a .out) in
-    (all-read heard old (a .changed) (c .before .before .before .before .before .if1 .left), stands-copied _ (heard .size) (heard .printed) old (c .before .before .copy .ensures .1))
+    (all-read (a .cut) heard old (a .changed) (c .before .before .before .before .before .if1 .left), stands-copied _ (heard .size) (heard .printed) old (c .before .before .copy .ensures .1))
 
 pub read-into-spec : {M : Type 1} → statement M
 read-into-spec =

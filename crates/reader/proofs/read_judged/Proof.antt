@@ -3,7 +3,7 @@ use mathlib.Core.Path.{refl, sym, ap, _∙_}
 use lib.ListN.{length}
 use denote.Ref.{now}
 use borrow.Author.Needs.{needs}
-use Rattle.reader.specs.Reading.{heardIn}
+use Rattle.reader.specs.Reading.{heardStretch}
 use Rattle.reader.specs.Answers.{answered}
 use Rattle.reader.specs.declared.Verdict.{Verdict}
 use Rattle.reader.proofs.read_judged.Statement.{statement}
@@ -26,12 +26,12 @@ returns c =
     let told = c .before .before .before .before in
     let a = told .before .before .before .before .args in
     let r = c .before .before .read-sound .ensures in
-    (r .0 ∙ sym (ap (λ (v : Verdict). answered v (heardIn (now (a .words))) (length (now (a .out)))) (told .enum-told .given .1)), r .1)
+    (r .0 ∙ sym (ap (λ (v : Verdict). answered v (heardStretch (a .cut) (now (a .words))) (length (now (a .out)))) (told .enum-told .given .1)), r .1)
 
 returns-2 : tie.Need-returns-2
 returns-2 c =
     let a = c .before .before .before .before .before .args in
-    (sym (ap (λ (v : Verdict). answered v (heardIn (now (a .words))) (length (now (a .out)))) (c .before .v .given .1)), refl)
+    (sym (ap (λ (v : Verdict). answered v (heardStretch (a .cut) (now (a .words))) (length (now (a .out)))) (c .before .v .given .1)), refl)
 
 pub read-judged-spec : {M : Type 1} → statement M
 read-judged-spec =

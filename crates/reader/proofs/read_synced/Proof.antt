@@ -9,7 +9,7 @@ use denote.Ref.{now}
 use borrow.Author.Needs.{needs}
 use Rattle.base.specs.Lists.{over}
 use Rattle.reader.specs.Changed.{slotsChanged}
-use Rattle.reader.specs.Reading.{Heard, slotWord, changesIn, heardIn}
+use Rattle.reader.specs.Reading.{Heard, slotWord, changesIn, heardStretch}
 use Rattle.reader.specs.Answers.{printedInto, linesOf}
 use Rattle.reader.specs.Symbols.{Tells, heardBy}
 use Rattle.reader.specs.declared.Changes.{Changes}
@@ -108,8 +108,8 @@ returns c =
     let syncs = synced .syncs-changed in
     let changed : Changes = record { slots = r .read-slots .result; syncs = syncs .result } in
     let all : changed ≡ changesIn words = λ i. record { slots = counted r i; syncs = syncs .ensures i } in
-    let heard : heardBy (take (slots (read r)) (symbols r ++ behind r)) changed ≡ heardIn words =
-    ap (λ (l : List ℕ). heardBy l changed) (part-is r) ∙ heard-same words (symbols r) changed (tells r) all in (
+    let heard : heardBy (a .cut) (take (slots (read r)) (symbols r ++ behind r)) changed ≡ heardStretch (a .cut) words =
+    ap (λ (l : List ℕ). heardBy (a .cut) l changed) (part-is r) ∙ heard-same words (a .cut) (symbols r) changed (tells r) all in (
       answer .ensures .0 ∙ ap (λ (h : Heard). printedInto h (length (now (a .out)))) heard,
       answer .ensures .1 ∙ ap (λ (h : Heard). over (now (a .out)) (linesOf (answer .result) h)) heard,
     )

@@ -1,16 +1,17 @@
--- `reader::read_words` meets its contract. Assumes nothing.
+-- `reader::read_stretch` meets its contract. Assumes nothing.
 use mathlib.Core.Path.{_≡_, sym, ap, _∙_}
-use Prim.Native.Nat.{ℕ}
+use mathlib.Core.Bool.{Bool}
 use mathlib.Core.List.{List}
+use Prim.Native.Nat.{ℕ}
 use lib.ListN.{length}
 use denote.Ref.{now}
 use borrow.Author.Needs.{needs}
-use Rattle.reader.specs.Reading.{heardIn}
-use Rattle.reader.specs.Answers.{judgeWords, answered, readWords}
+use Rattle.reader.specs.Reading.{heardStretch}
+use Rattle.reader.specs.Answers.{judgeWords, answered, readStretch}
 use Rattle.reader.specs.declared.Verdict.{Verdict}
 use Rattle.reader.proofs.AnswerLaws.{readable}
-use Rattle.reader.proofs.read_words.Statement.{statement}
-use Rattle.reader.proofs.read_words.Tie as tie
+use Rattle.reader.proofs.read_stretch.Statement.{statement}
+use Rattle.reader.proofs.read_stretch.Tie as tie
 
 judge-words-requires : tie.Need-judge-words-requires
 judge-words-requires c κs = search needs
@@ -21,17 +22,18 @@ read-judged-requires c κs e = readable .of-words (now (c .before .before .befor
 same-length : tie.Need-same-length
 same-length c = search needs
 
-judged : (words : List ℕ) (room : ℕ) {v : Verdict} → v ≡ judgeWords words → answered v (heardIn words) room ≡ readWords words room
-unfolding readWords
-judged words room e = ap (λ (v : Verdict). answered v (heardIn words) room) e
+judged : (cut : Bool) (words : List ℕ) (room : ℕ) {v : Verdict} → v ≡ judgeWords words
+    → answered v (heardStretch cut words) room ≡ readStretch cut words room
+unfolding readStretch
+judged cut words room e = ap (λ (v : Verdict). answered v (heardStretch cut words) room) e
 
 returns : tie.Need-returns
 returns c =
     let j = c .before .before .before .before in
     let a = j .before .before .before .args in
     let r = c .before .before .read-judged .ensures in
-    (r .0 ∙ judged (now (a .words)) (length (now (a .out))) (j .judge-words .ensures), r .1)
+    (r .0 ∙ judged (a .cut) (now (a .words)) (length (now (a .out))) (j .judge-words .ensures), r .1)
 
-pub read-words-spec : {M : Type 1} → statement M
-read-words-spec =
+pub read-stretch-spec : {M : Type 1} → statement M
+read-stretch-spec =
     tie.close (tie.spec judge-words-requires read-judged-requires same-length returns)
