@@ -1,0 +1,6 @@
+pub mod BitLaws
+pub mod StretchLaws
+pub mod AddLaws
+pub mod ReadLaws
+pub mod SoFar
+pub mod RoomLaws

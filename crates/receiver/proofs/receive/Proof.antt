@@ -1,0 +1,96 @@
+-- `receiver::receive` meets its contract. Assumes nothing.
+use mathlib.Core.Path.{_≡_, refl, sym, subst, _∙_}
+use native.Mathlib.Omega.{arith}
+use lib.ListN.{length, take}
+use denote.Ref.{now}
+use borrow.Author.Needs.{needs}
+use Rattle.base.proofs.ListLaws.{stands-inside, stands-size, stands-copied}
+use Rattle.reader.specs.Lines.{linesHeard}
+use Rattle.receiver.specs.Answers.{heardBits, receiveBits, linesReceived, totalsReceived}
+use Rattle.receiver.specs.declared.Receiving.{Receiving}
+use Rattle.receiver.specs.declared.Receiving.the-variants.{Received}
+use Rattle.receiver.proofs.RoomLaws.{too-long, bytes-received, still-received, no-room, still-many}
+use Rattle.receiver.proofs.receive.Statement.{statement}
+use Rattle.receiver.proofs.receive.Tie as tie
+
+-- what is received into room that is enough, and its lines stand there
+answer : (c : tie.After-t) → Received (c .t .given .0 .0) ≡ receiveBits (now (c .before .before .before .before .before .before .before .before .before .args .bits)) (length (c .before .before .before .before .before .blank-lines .result))
+answer c = sym (c .t .given .1) ∙ c .before .before .before .receive-all .ensures .0
+
+size : (c : tie.After-t) → c .t .given .0 .0 .bytes ≡ length (linesHeard (heardBits (now (c .before .before .before .before .before .before .before .before .before .args .bits)) .pages))
+size c = bytes-received (now (c .before .before .before .before .before .before .before .before .before .args .bits)) (length (c .before .before .before .before .before .blank-lines .result)) (answer c)
+
+stands : (c : tie.After-t) → take (c .t .given .0 .0 .bytes) (c .before .before .before .receive-all .last .1 .0) ≡ linesHeard (heardBits (now (c .before .before .before .before .before .before .before .before .before .args .bits)) .pages)
+stands c =
+    subst (λ (r : Receiving). take (totalsReceived r .bytes) (c .before .before .before .receive-all .last .1 .0) ≡ linesReceived r (now (c .before .before .before .before .before .before .before .before .before .args .bits)))
+    (c .t .given .1) (c .before .before .before .receive-all .ensures .1)
+
+returns : tie.Need-returns
+returns c =
+    let a = c .before .before .before .args in
+    (too-long (now (a .bits)) (length (now (a .out))) (omega arith), refl)
+
+blank-lines-requires : tie.Need-blank-lines-requires
+blank-lines-requires c κs = search needs
+
+slice-aggregate-receive-all : tie.Need-slice-aggregate-receive-all
+slice-aggregate-receive-all c = search needs
+
+receive-all-requires : tie.Need-receive-all-requires
+receive-all-requires c κs = search needs
+
+enum-known-t : tie.Need-enum-known-t
+enum-known-t c = search needs
+
+enum-told : tie.Need-enum-told
+enum-told c = search needs
+
+returns-2 : tie.Need-returns-2
+returns-2 c =
+    let v = c .before .before .before in
+    let a = v .before .before .before .before .before .before .args in
+    (still-many (now (a .bits)) (length (v .before .before .blank-lines .result)) (length (now (a .out))) (omega arith) (omega arith) (sym (c .enum-told .given .1) ∙ v .receive-all .ensures .0), refl)
+
+returns-3 : tie.Need-returns-3
+returns-3 c =
+    let t = c .before .before in
+    let a = t .before .before .before .before .before .before .before .before .before .args in
+    (no-room (now (a .bits)) (length (t .before .before .before .before .before .blank-lines .result)) (answer t) (length (now (a .out))) (omega arith), refl)
+
+array-share-prefix-lines : tie.Need-array-share-prefix-lines
+array-share-prefix-lines c = stands-inside _ (size (c .before .before)) (stands (c .before .before))
+
+slice-aggregate-copy : tie.Need-slice-aggregate-copy
+slice-aggregate-copy c = stands-size _ (size (c .before .before .before)) (stands (c .before .before .before))
+
+copy-requires : tie.Need-copy-requires
+copy-requires c κs = omega (arith, stands-size _ (size (c .before .before .before .before)) (stands (c .before .before .before .before)))
+
+same-length : tie.Need-same-length
+same-length c = search needs
+
+returns-4 : tie.Need-returns-4
+returns-4 c =
+    let t = c .before .before .before .before .before .before .before in
+    let a = t .before .before .before .before .before .before .before .before .before .args in (
+      still-received (now (a .bits)) (length (t .before .before .before .before .before .blank-lines .result)) (answer t) (length (now (a .out))) (c .before .before .before .before .before .if2 .left),
+      stands-copied _ (size t) (stands t) (now (a .out)) (c .before .before .copy .ensures .1),
+    )
+
+pub receive-spec : {M : Type 1} → statement M
+receive-spec =
+    tie.close
+    (tie.spec
+    returns
+    blank-lines-requires
+    slice-aggregate-receive-all
+    receive-all-requires
+    enum-known-t
+    enum-told
+    returns-2
+    returns-3
+    array-share-prefix-lines
+    slice-aggregate-copy
+    copy-requires
+    same-length
+    returns-4)

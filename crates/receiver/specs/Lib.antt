@@ -1,0 +1,5 @@
+pub mod Bits
+pub mod Stretches
+pub mod Answers
+pub mod Enough
+pub mod Progress
