@@ -14,6 +14,8 @@ use Rattle.reader.specs.Answers as reading
 use Rattle.reader.specs.declared.Reading.{Reading}
 use Rattle.follower.specs.Answers as following
 use Rattle.follower.specs.declared.Following.{Following}
+use Rattle.receiver.specs.Answers as receiving
+use Rattle.receiver.specs.declared.Receiving.{Receiving}
 use Rattle.sender.specs.Answer as step
 use Rattle.sender.specs.declared.Answer.{Answer}
 use Rattle.sender.specs.declared.Sender.{Sender}
@@ -22,6 +24,7 @@ use Rattle.card.specs.declared.CardReport.{CardReport}
 use Rattle.card.specs.declared.CardBytes.{CardBytes}
 use Rattle.card.specs.declared.CardReading.{CardReading}
 use Rattle.card.specs.declared.CardFollowing.{CardFollowing}
+use Rattle.card.specs.declared.CardReceiving.{CardReceiving}
 use Rattle.card.specs.declared.CardRefusal.{CardRefusal}
 use Rattle.card.specs.declared.CardStep.{CardStep}
 
@@ -66,6 +69,21 @@ unreadFor place number =
 abbrev pub followingFor : Following → CardFollowing
 followingFor r =
     record { place = following.placeOf r; bytes = following.bytesFollowed r; number = following.numberOf r; lines = following.linesFollowed r }
+
+-- the answer of a receiving
+abbrev pub receivingFor : Receiving → CardReceiving
+receivingFor r =
+    let t = receiving.totalsReceived r in
+    record {
+      place = receiving.placeOf r;
+      bytes = t .bytes;
+      number = receiving.numberOf r;
+      batches = t .batches;
+      pages = t .pages;
+      lost = t .lost;
+      orphans = t .orphans;
+      changed = t .changed;
+    }
 
 -- the answer to a job whose sending is to start
 abbrev pub refusalFor : JobAnswer → CardRefusal

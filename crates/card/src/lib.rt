@@ -12,9 +12,10 @@ ghost use Rattle.listing.specs.Words.{wordsOf};
 ghost use Rattle.reader.specs.Answers.{readWords, readListing, linesRead};
 ghost use Rattle.follower.specs.Pages.{pagesFor};
 ghost use Rattle.follower.specs.Answers.{followWords, followListing, linesOf};
+ghost use Rattle.receiver.specs.Answers.{receiveBits, linesReceived};
 ghost use Rattle.sender.specs.Start.{startedOf};
 ghost use Rattle.sender.specs.Step.{stateFrom, stepOf};
-ghost use Rattle.card.specs.Answers.{wordFor, reportFor, bytesFor, readingFor, unreadFor, followingFor, refusalFor, stateFor, stepFor};
+ghost use Rattle.card.specs.Answers.{wordFor, reportFor, bytesFor, readingFor, unreadFor, followingFor, receivingFor, refusalFor, stateFor, stepFor};
 use codeword::Correction;
 use codeword::Engine;
 use follower::Following;
@@ -74,6 +75,19 @@ pub struct CardFollowing {
     pub bytes: usize,
     pub number: u32,
     pub lines: u32,
+}
+
+// The same of a recording as of a reading, with the number of its batches.
+#[repr(C)]
+pub struct CardReceiving {
+    pub place: usize,
+    pub bytes: usize,
+    pub number: u32,
+    pub batches: u32,
+    pub pages: u32,
+    pub lost: u32,
+    pub orphans: u32,
+    pub changed: Changes,
 }
 
 // A number and its places.
@@ -363,6 +377,28 @@ pub extern "C" fn card_follow_listing(
 {
     let following = follower::follow_listing(identity, listing, out);
     following_numbers(following)
+}
+
+// Writes the page lines of a recording's bits over the front of lent bytes.
+#[no_mangle]
+pub extern "C" fn card_receive(bits: &[u8], out: &mut [u8]) -> CardReceiving
+    ensures { λ r. ⌜ r ≡ receivingFor (receiveBits (now (bits .entry)) (length (now (out .entry)))) ⌝ }
+    ensures { λ _. ⌜ now (out .exit) ≡ over (now (out .entry)) (linesReceived (receiveBits (now (bits .entry)) (length (now (out .entry)))) (now (bits .entry))) ⌝ }
+{
+    let receiving = receiver::receive(bits, out);
+    let number = receiver::number(receiving);
+    let totals = receiver::report(receiving);
+    let changed = totals.changed;
+    CardReceiving {
+        place: 0,
+        bytes: totals.bytes,
+        number: number,
+        batches: totals.batches,
+        pages: totals.pages,
+        lost: totals.lost,
+        orphans: totals.orphans,
+        changed: changed,
+    }
 }
 
 // A job with its phrase book started over a state of this cursor, these pages and these flags, whose message words are lent: a declined

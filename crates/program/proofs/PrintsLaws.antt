@@ -38,7 +38,16 @@ use Rattle.follower.specs.declared.Following.the-variants as following-variants
 use Rattle.follower.specs.declared.Refusal as follower
 use Rattle.follower.specs.declared.Refusal.the-variants.{IdentityRange, IdentityReserved, Unread, NoRoom as NoLines}
 use Rattle.follower.proofs.RoomLaws.{bytes-followed}
-use Rattle.program.specs.Prints.{isLong, refusalLine, answerText, sendPrints, readPrints, followPrints}
+use Rattle.receiver.specs.Answers as receiving
+use Rattle.receiver.specs.Answers.{heardBits, receiveBits, linesReceived}
+use Rattle.receiver.specs.declared.Receiving.{Receiving}
+use Rattle.receiver.specs.declared.Receiving.the-variants.{Received}
+use Rattle.receiver.specs.declared.Receiving.the-variants as receiving-variants
+use Rattle.receiver.specs.declared.Refusal as receiver
+use Rattle.receiver.specs.declared.Refusal.the-variants.{TooLong, TooMany as TooManyBatches, NoRoom as NoReceivedLines}
+use Rattle.receiver.specs.declared.Totals.{Totals}
+use Rattle.receiver.proofs.RoomLaws.{bytes-received}
+use Rattle.program.specs.Prints.{isLong, refusalLine, answerText, sendPrints, readPrints, followPrints, receivePrints}
 
 -- bytes over the front of what was lent, and their number
 abbrev pub Printed : List ℕ → List ℕ → ℕ → List ℕ → Type 0
@@ -148,3 +157,30 @@ module _ (i : ℕ) (s old : List ℕ) (h : isLong s ≡ false) {out : List ℕ} 
   follow-declined n (Unread (TooMany line)) room e p = follow-is i s old (following-variants.Declined (Unread (TooMany line))) h room e p
   follow-declined n (Unread (Unsynced batch)) room e p = follow-is i s old (following-variants.Declined (Unread (Unsynced batch))) h room e p
   follow-declined n NoLines room e p = follow-is i s old (following-variants.Declined NoLines) h room e p
+
+-- ---- the receiving program
+
+module _ (s old : List ℕ) {n : ℕ} {out : List ℕ} where
+  -- number 24
+  pub receive-long : isLong s ≡ true → Printed old (refusalLine 24 0 0) n out → Printed old (receivePrints s) n out
+  unfolding receivePrints
+  receive-long h p = same old (refusalLine 24 0 0) (receivePrints s) out n (rw h) p
+
+  -- the lines, or the line of the refusal
+  receive-is : (r : Receiving) → isLong s ≡ false → length old ≡ 48300 → r ≡ receiveBits s (length old)
+      → Printed old (answerText (receiving.numberOf r) (receiving.placeOf r) 0 (linesReceived r s)) n out → Printed old (receivePrints s) n out
+  unfolding receivePrints
+  receive-is r h room e p =
+      same old (answerText (receiving.numberOf r) (receiving.placeOf r) 0 (linesReceived r s)) (receivePrints s) out n (rw (h, e, room)) p
+
+-- the cases of the answer
+module _ (s old : List ℕ) (h : isLong s ≡ false) {out : List ℕ} where
+  pub receive-whole : (t : Totals) → length old ≡ 48300 → Received t ≡ receiveBits s (length old)
+      → out ≡ over old (linesHeard (heardBits s .pages)) → Printed old (receivePrints s) (t .bytes) out
+  receive-whole t room e o = receive-is s old (Received t) h room e (bytes-received s (length old) e, o)
+
+  pub receive-declined : (n : ℕ) (why : receiver.Refusal) → length old ≡ 48300 → receiving-variants.Declined why ≡ receiveBits s (length old)
+      → Printed old (refusalLine (receiving.numberOf (receiving-variants.Declined why)) 0 0) n out → Printed old (receivePrints s) n out
+  receive-declined n TooLong room e p = receive-is s old (receiving-variants.Declined TooLong) h room e p
+  receive-declined n TooManyBatches room e p = receive-is s old (receiving-variants.Declined TooManyBatches) h room e p
+  receive-declined n NoReceivedLines room e p = receive-is s old (receiving-variants.Declined NoReceivedLines) h room e p

@@ -1,5 +1,5 @@
 -- What the programs print for their standard input, the sending one with its phrase book, the following one for its identity (document 01,
--- "The two programs", and number 24 of its table; requests R-1, R-4 and R-6).
+-- "The two programs", and number 24 of its table; requests R-1, R-4, R-6 and R-10).
 use Prim.Native.Nat.{ℕ, suc, _^_}
 use mathlib.Core.Bool.{Bool, cond}
 use mathlib.Core.List.{List, [], _∷_, _++_}
@@ -18,6 +18,8 @@ use Rattle.reader.specs.Answers.{readListing, linesRead, numberOf, placeOf}
 use Rattle.follower.specs.Pages.{pagesFor}
 use Rattle.follower.specs.Answers as following
 use Rattle.follower.specs.Answers.{followListing, linesOf}
+use Rattle.receiver.specs.Answers as receiving
+use Rattle.receiver.specs.Answers.{receiveBits, linesReceived}
 
 -- how many digits a number below 10^20 has in decimal; 0 has one
 abbrev pub decimalLength : ℕ → ℕ
@@ -73,3 +75,8 @@ followPrints i s =
 -- the identity that its argument names: six upper-case digits, else none
 abbrev pub identityNamed : List ℕ → HexWord
 identityNamed a = cond (eqb (length a) 6) (hexWord a) NotHex
+
+-- the receiving program, which has room for 48,300 bytes: a recording's page lines in slot order (request R-10)
+unfoldable pub receivePrints : List ℕ → List ℕ
+receivePrints s =
+    unlessLong s (answerText (receiving.numberOf (receiveBits s 48300)) (receiving.placeOf (receiveBits s 48300)) 0 (linesReceived (receiveBits s 48300) s))

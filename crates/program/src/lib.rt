@@ -1,6 +1,6 @@
 // What the programs do: standard input in, for the sending one with a phrase book and for the following one with an identity, and the bytes
-// out that are printed (document 01, "The two programs", and requests R-4 and R-6). Each program is one call of `send`, `read` or `follow`,
-// and the few lines around it that read and write.
+// out that are printed (document 01, "The two programs", and requests R-4, R-6 and R-10). Each program is one call of `send`, `read`,
+// `follow` or `receive`, and the few lines around it that read and write.
 ghost use mathlib.Core.Path.{_≡_};
 ghost use mathlib.Core.List.{_++_};
 ghost use Prim.Native.Nat.{_+_, _≤_};
@@ -8,13 +8,14 @@ ghost use lib.ListN.{length, take, drop};
 ghost use Rattle.io.specs.Counts.{Counts};
 ghost use Rattle.base.specs.Lists.{over};
 ghost use Rattle.job.specs.Submission.{withBook};
-ghost use Rattle.program.specs.Prints.{isLong, decimal, positionPart, refusalLine, sendPrints, readPrints, followPrints, identityNamed};
+ghost use Rattle.program.specs.Prints.{isLong, decimal, positionPart, refusalLine, sendPrints, readPrints, followPrints, receivePrints, identityNamed};
 use base::HexWord;
 use codeword::Engine;
 use follower::Following;
 use job_listing::Listed;
 use libc::STDIN_FILENO;
 use reader::Reading;
+use receiver::Receiving;
 
 // What was read of standard input or of a file: how many bytes, and whether it can't be read.
 pub struct Input {
@@ -197,5 +198,22 @@ pub fn follow(identity: u32, input: &[u8], out: &mut [u8; 48000]) -> usize
     match answer {
         Following::Followed { lines: _, bytes } => bytes,
         Following::Declined(_) => write_refusal(number, place, 0, out),
+    }
+}
+
+// What the receiving program prints for its standard input, a recording's bits; answers how many bytes they are.
+pub fn receive(input: &[u8], out: &mut [u8; 48300]) -> usize
+    ensures { λ r. ⌜ r ≡ length (receivePrints (now (input .entry))) ⌝ }
+    ensures { λ _. ⌜ now (out .exit) ≡ over (now (out .entry)) (receivePrints (now (input .entry))) ⌝ }
+    ensures { λ r. ⌜ Counts r (now (out .exit)) ⌝ }
+{
+    if is_long(input) {
+        return write_refusal(24, 0, 0, out);
+    }
+    let answer = receiver::receive(input, out);
+    let number = receiver::number(answer);
+    match answer {
+        Receiving::Received(t) => t.bytes,
+        Receiving::Declined(_) => write_refusal(number, 0, 0, out),
     }
 }
