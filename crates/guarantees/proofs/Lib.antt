@@ -20,3 +20,7 @@ pub mod Demand3
 pub mod Card
 pub mod DamagedLine
 pub mod NothingFalse
+pub mod OneStretch
+pub mod FromBits
+pub mod JobFromBits
+pub mod SentBits

@@ -26,6 +26,7 @@ use Rattle.reader.specs.Answers.{readListing, linesRead, numberOf, placeOf}
 use Rattle.reader.specs.declared.Changes.{Changes}
 use Rattle.reader.proofs.RoomLaws as reading
 use Rattle.follower.proofs.RoomLaws as following
+use Rattle.receiver.proofs.RoomLaws as receiving
 use Rattle.job_listing.specs.Listed.{listingText}
 use Rattle.job_listing.proofs.RoomLaws as listing
 use Rattle.program.specs.Prints.{answerText, unlessLong, sendPrints, readPrints}
@@ -106,6 +107,7 @@ sizes = record {
   lines-of-listing = reading.enough .of-listing;
   identity-in-words = λ i. following.enough i .of-words;
   identity-in-listing = λ i. following.enough i .of-listing;
+  lines-of-recording = receiving.enough;
   sending-program = send-is;
   reading-program = read-is;
 }

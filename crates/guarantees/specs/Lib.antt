@@ -8,3 +8,4 @@ pub mod Desk
 pub mod Demand3
 pub mod Card
 pub mod NothingFalse
+pub mod FromBits

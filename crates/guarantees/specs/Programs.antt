@@ -18,14 +18,16 @@ use Rattle.listing.specs.Words.{wordsOf}
 use Rattle.reader.specs.Answers.{readWords, readListing, linesRead, numberOf, placeOf}
 use Rattle.follower.specs.Answers as following
 use Rattle.follower.specs.Answers.{followWords, followListing}
+use Rattle.receiver.specs.Answers as receiving
+use Rattle.receiver.specs.Answers.{receiveBits}
 use Rattle.job_listing.specs.Listed as listed
 use Rattle.job_listing.specs.Listed.{listingText, listedOf}
 use Rattle.program.specs.Prints.{answerText, unlessLong, sendPrints, readPrints}
 use Rattle.guarantees.specs.Transport.{Received}
 use Rattle.guarantees.specs.Demand2.{linesInOrder}
 
--- a call of `program::send`, `program::read` or, for one identity, `program::follow`, by its promises: with standard input s, which for the
--- first has its phrase book, and lent bytes that held `old` it answers n and leaves `left`
+-- a call of `program::send`, `program::read`, `program::receive` or, for one identity, `program::follow`, by its promises: with standard
+-- input s, which for the first has its phrase book, and lent bytes that held `old` it answers n and leaves `left`
 pub record ProgramCall {X : Type 0} (prints : X → List ℕ) (s : X) (old : List ℕ) (n : ℕ) (left : List ℕ) : Type 0 where
   pub count : n ≡ length (prints s)
   pub bytes : left ≡ over old (prints s)
@@ -48,7 +50,7 @@ pub record Programs (s : Submission) : Type 0 where
 abbrev pub OneIntoTheOther : Type 0
 OneIntoTheOther = (s : Submission) (n : ℕ) → jobOf s ≡ Accepted n → Programs s
 
--- the sizes that suffice for every job and every listing, in the library, for C and in the programs: no number 10
+-- the sizes that suffice for every job, every listing and every recording, in the library, for C and in the programs: no number 10
 pub record Sizes : Type 0 where
   -- CARD_WORDS and CARD_PAGES
   pub words-and-slots : (s : Submission) (words slots : ℕ) → 5118 ≤ words → 48 ≤ slots → report.numberOf (reportOf s words slots) ≡ 10 → ⊥
@@ -59,6 +61,8 @@ pub record Sizes : Type 0 where
   pub lines-of-listing : (s : List ℕ) (room : ℕ) → 48000 ≤ room → numberOf (readListing s room) ≡ 10 → ⊥
   pub identity-in-words : (i : ℕ) (words : List ℕ) (room : ℕ) → 48000 ≤ room → following.numberOf (followWords i words room) ≡ 10 → ⊥
   pub identity-in-listing : (i : ℕ) (s : List ℕ) (room : ℕ) → 48000 ≤ room → following.numberOf (followListing i s room) ≡ 10 → ⊥
+  -- CARD_RECEIVED_BYTES
+  pub lines-of-recording : (bits : List ℕ) (room : ℕ) → 48300 ≤ room → receiving.numberOf (receiveBits bits room) ≡ 10 → ⊥
   -- so the sending program prints number 24, or the refusal of the job or its book, or its listing
   pub sending-program : (s : Submission) → sendPrints s ≡ unlessLong (s .job) (answerText (jobNumber (jobOf s)) (jobPlace (jobOf s)) (jobPosition (jobOf s)) (listingText s))
   -- and a reading program what it would print with any more room
