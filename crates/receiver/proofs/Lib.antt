@@ -4,3 +4,4 @@ pub mod AddLaws
 pub mod ReadLaws
 pub mod SoFar
 pub mod RoomLaws
+pub mod NoBatch
