@@ -8,22 +8,22 @@
  * length is 0; a state is never null; a buffer or state that a call may write (a pointer without const) overlaps nothing else that the
  * call is given. Nothing else: every value of every argument and every byte of a state gets an answer. The library allocates nothing
  * and keeps nothing between calls, so calls on different memory may run at once.
- * Measured, reading a listing takes some 165 KB of stack, following an identity in one 145 KB, reading words or following in them 125 KB,
- * card_list 30 KB, every other call 10 KB or less.
+ * Measured, reading a listing or receiving takes some 165 KB of stack, following an identity in a listing 145 KB, reading words or
+ * following in them 125 KB, card_list 30 KB, every other call 10 KB or less.
  *
  * A number of 0 says that nothing is declined; the others are the CARD_REFUSED_ below. A declined call leaves every lent buffer and
  * state as it was, and its counts are zero. In a lent buffer what stands behind the last element written keeps its value.
  *
- * docs/PROGRAMS.md has the forms of a page line, of a phrase book and of a listing. */
+ * docs/PROGRAMS.md has the forms of a page line, of a phrase book, of a listing and of a recording. */
 #ifndef SPUGGENOR_H
 #define SPUGGENOR_H
 
 #include <stddef.h>
 #include <stdint.h>
 
-/* 3.1.0, as 10000 * first + 100 * second + third. The first goes up where a caller has to change or only to be compiled again, as when
+/* 3.2.0, as 10000 * first + 100 * second + third. The first goes up where a caller has to change or only to be compiled again, as when
  * a struct grows; the second where something is added. The archive and the header of one commit belong together. */
-#define SPUGGENOR_VERSION 30100
+#define SPUGGENOR_VERSION 30200
 
 #ifdef __cplusplus
 extern "C" {
@@ -38,7 +38,7 @@ extern "C" {
 #define CARD_ASSERT(fact) extern char card_assert[(fact) ? 1 : -1]
 #endif
 
-/* Sizes that suffice for every job, every phrase book and every listing. */
+/* Sizes that suffice for every job, every phrase book, every listing and every recording. */
 #define CARD_PAGES 48               /* pages of a job, so address slots */
 #define CARD_PHRASES 100            /* phrases of a book */
 #define CARD_BOOK_BYTES 48100       /* bytes of a book: 481 a phrase */
@@ -46,13 +46,15 @@ extern "C" {
 #define CARD_PREAMBLE_WORDS 18      /* words in front of a transmission's batches */
 #define CARD_LISTING_BYTES 46062    /* bytes of a transmission's listing: 9 a word */
 #define CARD_LINES_BYTES 48000      /* bytes of the page lines of 300 batches */
+#define CARD_RECORDING_BYTES 65536  /* bytes of a recording */
+#define CARD_RECEIVED_BYTES 48300   /* bytes of the page lines of a recording: 161 a batch, where each ends with a page cut short */
 #define CARD_MESSAGE_WORDS 4032     /* message codewords of a job */
 
 /* Why work is declined, and the place that comes with the number. A job's own numbers, 9 the last of them, stand here first: its
  * book's, then a line's in the order of their rank. A malformed book is 19, whatever the job holds. Then the first faulty line decides,
  * and in it the first of 1, 2, 3, 4, 25, then 12, 13, 14 or 18, then 6, 7; but a 49th line is 8 whatever it holds; then 9, then 10. Of a
- * listing the first line that gives 21 or 23, then the first 22, then 10; of words 21, 23, 22, 10. An identity to follow is 2 or 3 before
- * these, whatever it is followed in. (The programs have one number more, 24.)
+ * listing the first line that gives 21 or 23, then the first 22, then 10; of words 21, 23, 22, 10; of a recording 28, 23, 10. An identity
+ * to follow is 2 or 3 before these, whatever it is followed in. (The programs have one number more, 24.)
  *
  * A call that takes a job also answers a position: with number 6 that of the first bad character of the text, counted in characters
  * from 1; 0 with every other number and where nothing is declined. */
@@ -76,7 +78,8 @@ extern "C" {
 #define CARD_REFUSED_BATCHES_FORM 21        /* line: a listing is not written as one, or ends early (the line after the last);
                                              * 0: words that are none, or no multiple of 17 */
 #define CARD_REFUSED_NO_SYNC 22             /* batch, from 1: its first word is not within two bits of sync */
-#define CARD_REFUSED_TOO_MANY_BATCHES 23    /* line of the 301st sync; 0 for words */
+#define CARD_REFUSED_TOO_MANY_BATCHES 23    /* line of the 301st sync; 0 for words and recordings */
+#define CARD_REFUSED_RECORDING_TOO_LONG 28  /* 0: a recording of over 65,536 bytes */
 
 /* ---- a received word */
 
@@ -179,6 +182,28 @@ struct card_following card_follow_words(uint32_t identity,
 struct card_following card_follow_listing(uint32_t identity,
                                           const uint8_t *listing, size_t listing_length,
                                           uint8_t *out, size_t out_length);
+
+/* ---- receiving: the radio's own bits, eight to a byte, the first of them on top, with whatever stands before, between and behind the
+ * transmissions. A batch is looked for from the first bit on: it begins at the lowest position whose 32 bits are within two bits of sync
+ * and have 512 more behind them. Behind a batch, with fewer than 544 bits left the recording is at its end, which ends an open page as
+ * the end of words does. With 544 or more left the next 32 bits are tested. Within two bits of sync they begin the next batch, into which
+ * an open page goes on. If not, an open page is cut short, and a batch is looked for again from there on. Batches are read as
+ * card_read_words reads them. A recording without a batch has no lines and is not declined. */
+
+struct card_receiving {
+    size_t place;       /* always 0 */
+    size_t bytes;       /* how many are written */
+    uint32_t number;
+    uint32_t batches;   /* batches found */
+    uint32_t pages;     /* lines written */
+    uint32_t lost;      /* words lost; a test for sync that fails is none */
+    uint32_t orphans;   /* message words that belong to no page */
+    struct card_changes changed;
+};
+
+/* The page lines of a recording, over the front of out. Number 28, then 23 where a 301st batch is found, then 10 where out is shorter
+ * than the lines. CARD_RECEIVED_BYTES suffice. */
+struct card_receiving card_receive(const uint8_t *bits, size_t bits_length, uint8_t *out, size_t out_length);
 
 /* ---- a job word by word. The caller keeps the state, and nothing but card_step writes it until the transmission is over. It holds no
  * pointer, so it may be copied or moved as memory. A state in which another byte was written gets an answer too. It is number 11

@@ -9,6 +9,8 @@ work=$(mktemp -d)
 trap 'rm -rf "$work"' EXIT
 printf '000009 4 3132\n' > "$work/job"
 ./page_send < "$work/job" > "$work/listing"
+# the listing's words as a radio's bits, eight to a byte
+printf "$(tr -d ' \n' < "$work/listing" | sed 's/../\\x&/g')" > "$work/recording"
 wrong=0
 
 # WHAT PRINTED SAID: the run before must have printed and said exactly this
@@ -42,15 +44,17 @@ failing() {
     expect "full output$which" '' "$program: standard output can't be written"
 }
 
-for program in page_send page_read page_read_slow page_follow; do
-    input=$work/listing good=$(cat "$work/job") arguments=()
+for program in page_send page_read page_read_slow page_follow page_receive; do
+    input=$work/listing good=$(cat "$work/job") arguments=() refused=/dev/null
     case $program in
         page_send) input=$work/job good=$(cat "$work/listing") ;;
         page_follow) arguments=(000009) ;;
+        # nothing is a recording without a batch
+        page_receive) input=$work/recording refused=/dev/zero ;;
     esac
     with 'all is well' "$good" '' "${arguments[@]}"
     failing '' "${arguments[@]}"
-    "./$program" "${arguments[@]}" < /dev/null > /dev/full 2> "$work/err"
+    "./$program" "${arguments[@]}" < "$refused" > /dev/full 2> "$work/err"
     expect 'a refusal to a full output' '' "$program: standard output can't be written"
     (sleep 0.2; head -c 5 "$input"; sleep 0.2; tail -c +6 "$input") | "./$program" "${arguments[@]}" > "$work/out" 2> "$work/err"
     expect 'slow input' "$good" ''
@@ -111,4 +115,17 @@ expect 'lower case, and what is left of the input' "$(cat "$work/listing")" "$us
 input=/dev/zero
 with 'an input without end' 'refused 24 place 0' '' 000009
 with 'an input without end and an identity over the limit' 'refused 24 place 0' '' 200000
+
+# ---- the receiving program with its recording (R-10)
+program=page_receive
+with 'an input without end' 'refused 24 place 0' ''
+input=/dev/null
+with 'an empty input' '' ''
+head -c 65536 /dev/zero > "$work/silence"
+input=$work/silence
+with '65,536 bytes without a batch' '' ''
+printf x >> "$work/silence"
+with '65,537 bytes' 'refused 24 place 0' ''
+input=$work/listing
+with 'a listing, which is no recording' '' ''
 exit $wrong

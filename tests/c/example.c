@@ -1,15 +1,16 @@
 /* Jobs declined, then one sent whole, with a phrase book, sent again word by word, and read back with some wrong bits; one word corrected
- * by both engines; and the lines of a single pager, as its desk receiver has them.
+ * by both engines; the lines of a single pager, as its desk receiver has them; and all lines again from a radio's recording.
  *
  * Build and run it in the repository's folder, once `rt staticlib card` has made the archive:
  *     gcc -Wall -Wextra tests/c/example.c -Iinclude target/staticlib/libcard.a -o target/example && target/example
- * It prints the page lines in the order of their slots, then those of one pager, and ends with status 0 where all agrees. */
+ * It prints the page lines in the order of their slots, then those of one pager, then all once more, and ends with status 0 where all
+ * agrees. */
 #include "spuggenor.h"
 #include <stdio.h>
 #include <string.h>
 
 static uint32_t words[CARD_WORDS], slots[CARD_PAGES];
-static uint8_t lines[CARD_LINES_BYTES];
+static uint8_t lines[CARD_LINES_BYTES], recording[CARD_RECORDING_BYTES], received[CARD_RECEIVED_BYTES];
 static struct card_sender state;
 
 /* "12" to pager 000009, "HELLO" to pager 000010, a tone with function 2 to pager 00000F, the phrase 01 to pager 000014 */
@@ -41,6 +42,15 @@ static int corrected(uint32_t word) {
     }
     printf("both engines correct %08X to %08X\n", word, slow.word);
     return 1;
+}
+
+/* records words as a radio gives their bits, first bit on top, three bits late: how many bytes that takes */
+static size_t record(const uint32_t *sent, size_t count) {
+    size_t bits = 3;
+    for (size_t i = 0; i < 32 * count; i++, bits++)
+        if (sent[i / 32] >> (31 - i % 32) & 1)
+            recording[bits / 8] |= (uint8_t)(0x80 >> bits % 8);
+    return (bits + 7) / 8;
 }
 
 int main(void) {
@@ -103,5 +113,12 @@ int main(void) {
         return 1;
     printf("%u for 000010\n", followed.lines);
     fwrite(lines, 1, followed.bytes, stdout);
-    return 0;
+
+    /* all words, preamble first, with the same wrong bits, as a radio records them */
+    struct card_receiving heard = card_receive(recording, record(words, sent.words), received, CARD_RECEIVED_BYTES);
+    if (refused(heard.number, heard.place, 0))
+        return 1;
+    printf("%u batches and %u pages received\n", heard.batches, heard.pages);
+    fwrite(received, 1, heard.bytes, stdout);
+    return heard.batches != sent.batches || heard.pages != read.pages || heard.bytes != read.bytes;
 }

@@ -19,6 +19,12 @@ CARD_ASSERT(sizeof(struct card_reading) == 40 && offsetof(struct card_reading, c
 CARD_ASSERT(sizeof(struct card_following) == 24 && offsetof(struct card_following, bytes) == 8);
 CARD_ASSERT(offsetof(struct card_following, number) == 16 && offsetof(struct card_following, lines) == 20);
 
+/* the answer that counts a recording's batches */
+CARD_ASSERT(sizeof(struct card_receiving) == 48 && offsetof(struct card_receiving, bytes) == 8);
+CARD_ASSERT(offsetof(struct card_receiving, number) == 16 && offsetof(struct card_receiving, batches) == 20);
+CARD_ASSERT(offsetof(struct card_receiving, pages) == 24 && offsetof(struct card_receiving, lost) == 28);
+CARD_ASSERT(offsetof(struct card_receiving, orphans) == 32 && offsetof(struct card_receiving, changed) == 36);
+
 /* the answers that have a position */
 CARD_ASSERT(sizeof(struct card_report) == 32 && offsetof(struct card_report, position) == 8 && offsetof(struct card_report, number) == 16);
 CARD_ASSERT(sizeof(struct card_bytes) == 32 && offsetof(struct card_bytes, position) == 8 && offsetof(struct card_bytes, number) == 24);
@@ -203,6 +209,44 @@ static void following(void) {
     EXPECT(memcmp(out + 400, job, 14) == 0);
 }
 
+/* the bytes of words, as a radio records their bits */
+static uint8_t recording[CARD_RECORDING_BYTES + 1];
+static size_t record(const uint32_t *from, size_t count) {
+    for (size_t i = 0; i < 4 * count; i++)
+        recording[i] = (uint8_t)(from[i / 4] >> (24 - i % 4 * 8));
+    return 4 * count;
+}
+
+/* what a declined receiving answers, and that nothing is written */
+#define NOT_RECEIVED(length, room, n) do { \
+        memset(out, 77, 64); \
+        struct card_receiving c = card_receive(recording, length, out, room); \
+        EXPECT(c.place == 0 && c.number == (n) && c.batches == 0 && ALL_ZERO(c) && out[0] == 77 && out[63] == 77); } while (0)
+
+/* three batches of which the last comes a byte late: a sync with two wrong bits, idle with one, an orphan, two lost words, of which one
+ * has the value of sync, and a page that the missing sync cuts; and behind the last batch, which has an orphan too, a tone to the end */
+static void receiving(void) {
+    for (int i = 0; i < 51; i++)
+        words[i] = i % 17 == 0 ? 0x7CD215D8 : 0x7A89C197;
+    words[0] ^= 0x80000001; words[2] ^= 0x00000100; words[4] = 0xC2199DEA; words[5] = 7; words[6] = 0x7CD215D9;
+    words[33] = 0x000026EC; words[35] = 0xC2199DEA; words[50] = 0x00001376;
+    size_t length = record(words, 51);
+    memmove(recording + 137, recording + 136, 68);
+    memset(out, 77, 64);
+    struct card_receiving c = card_receive(recording, length + 1, out, 64);
+    EXPECT(c.place == 0 && c.number == 0 && c.bytes == 19 && c.batches == 3 && c.pages == 2 && c.lost == 2 && c.orphans == 2);
+    EXPECT(c.changed.slots == 1 && c.changed.syncs == 2);
+    EXPECT(memcmp(out, "00000F 0-\n000007 2\n", 19) == 0 && out[19] == 77);
+    NOT_RECEIVED(length + 1, 18, 10);
+    NOT_RECEIVED(CARD_RECORDING_BYTES + 1, 64, 28);
+    for (int i = 1; i < 301; i++)
+        memcpy(recording + 68 * i, recording, 68);
+    NOT_RECEIVED(68 * 301, 64, 23);
+    NOT_RECEIVED(CARD_RECORDING_BYTES + 1, 64, 28);
+    c = card_receive(recording, 67, out, 0);
+    EXPECT(c.place == 0 && c.number == 0 && c.batches == 0 && ALL_ZERO(c));
+}
+
 int main(void) {
     start();
     with_book();
@@ -215,5 +259,6 @@ int main(void) {
         changed_bits(&engines[i]);
     }
     following();
+    receiving();
     return wrong;
 }

@@ -1,12 +1,13 @@
-/* The header's sizes and numbers against the archive: the largest jobs and listings in buffers that just suffice and in buffers that
- * are one too short, work that is declined by each number, identities to follow on both sides of each limit, and null with length 0.
+/* The header's sizes and numbers against the archive: the largest jobs, listings and recordings in buffers that just suffice and in
+ * buffers that are one too short, work that is declined by each number, identities to follow and recordings on both sides of each limit,
+ * and null with length 0.
  *
  *     gcc -Wall -Wextra tests/c/limits.c -Iinclude target/staticlib/libcard.a -o target/limits && target/limits
  * It prints each difference, and ends with status 0 where there is none.
  *
  * Jobs reach CARD_PAGES and CARD_MESSAGE_WORDS, books CARD_PHRASES and CARD_BOOK_BYTES, listings CARD_LISTING_BYTES and
- * CARD_LINES_BYTES. No job that we know reaches CARD_WORDS, and so CARD_LISTING_BYTES on sending: they are for 300 batches, and the
- * longest transmission here has 289. */
+ * CARD_LINES_BYTES, recordings CARD_RECORDING_BYTES and CARD_RECEIVED_BYTES. No job that we know reaches CARD_WORDS, and so
+ * CARD_LISTING_BYTES on sending: they are for 300 batches, and the longest transmission here has 289. */
 #include "engines.h"
 #include "spuggenor.h"
 #include <stdio.h>
@@ -18,6 +19,7 @@ static int wrong;
 /* every buffer has one element more than the header says, which nothing may write */
 #define UNTOUCHED 0x5A
 static uint8_t job[(CARD_PAGES + 1) * 490], book[(CARD_PHRASES + 1) * 490], listing[CARD_LISTING_BYTES + 1], lines[CARD_LINES_BYTES + 1];
+static uint8_t recording[CARD_RECORDING_BYTES + 1], received[CARD_RECEIVED_BYTES + 1];
 static uint32_t words[CARD_WORDS + 1], again[CARD_WORDS + 1], slots[CARD_PAGES + 1];
 static struct card_sender state, kept;
 
@@ -400,6 +402,88 @@ static void followed_identities(void) {
         followed_in(&identities[i]);
 }
 
+/* a recording in the making, and how many bits it has */
+static size_t recorded;
+
+/* the lowest so many bits of a number */
+static void put_bits(uint32_t bits, int count) {
+    for (int i = count - 1; i >= 0; i--, recorded++) {
+        if (recorded % 8 == 0)
+            recording[recorded / 8] = 0;
+        recording[recorded / 8] |= (uint8_t)((bits >> i & 1) << (7 - recorded % 8));
+    }
+}
+
+static void put_zeros(size_t count) {
+    while (count-- > 0)
+        put_bits(0, 1);
+}
+
+/* a batch with a numeric page to its end, 15 message words of five zeros each */
+static void put_full_batch(void) {
+    put_bits(0x7CD215D8, 32);
+    put_bits(0x00000000, 32);
+    for (int i = 0; i < 15; i++)
+        put_bits(0x80000769, 32);
+}
+
+/* so many bits in front, a full batch, and so many behind it, whole bytes in all: what is received */
+static struct card_receiving one_batch(size_t front, size_t behind) {
+    recorded = 0;
+    put_zeros(front);
+    put_full_batch();
+    put_zeros(behind);
+    EXPECT(recorded % 8 == 0);
+    return card_receive(recording, recorded / 8, received, CARD_RECEIVED_BYTES);
+}
+
+/* the most lines that a recording has: 300 batches, each with a full page that is cut */
+static void longest_receiving(void) {
+    recorded = 0;
+    for (int i = 0; i < 300; i++) {
+        put_full_batch();
+        put_zeros(1);
+    }
+    put_zeros(548);
+    size_t length = recorded / 8;
+    memset(received, UNTOUCHED, sizeof received);
+    EXPECT(card_receive(recording, length, received, CARD_RECEIVED_BYTES - 1).number == CARD_REFUSED_BUFFER_TOO_SHORT);
+    EXPECT(received[0] == UNTOUCHED && received[CARD_RECEIVED_BYTES - 1] == UNTOUCHED);
+    struct card_receiving c = card_receive(recording, length, received, CARD_RECEIVED_BYTES);
+    EXPECT(c.number == 0 && c.batches == 300 && c.pages == 300 && c.bytes == CARD_RECEIVED_BYTES && c.lost == 0 && c.orphans == 0);
+    EXPECT(memcmp(received + CARD_RECEIVED_BYTES - 4, "30-\n", 4) == 0 && received[CARD_RECEIVED_BYTES] == UNTOUCHED);
+}
+
+/* bits about a batch, batches about the most, and bytes about the most */
+static void received_limits(void) {
+    const size_t most = 8 * (size_t)CARD_RECORDING_BYTES, batch = 544;
+    struct card_receiving c = one_batch(1, 543);
+    EXPECT(c.number == 0 && c.batches == 1 && c.bytes == 160 && received[158] == '0' && received[159] == '\n');
+    c = one_batch(0, 544);
+    EXPECT(c.number == 0 && c.batches == 1 && c.bytes == 161 && received[159] == '-' && received[160] == '\n');
+    EXPECT(one_batch(8, 0).batches == 1);
+    /* the last bit of the batch is missing */
+    one_batch(9, 7);
+    c = card_receive(recording, 69, NULL, 0);
+    EXPECT(c.number == 0 && c.batches == 0 && c.bytes == 0);
+    EXPECT(one_batch(most - batch, 0).batches == 1);
+    recording[CARD_RECORDING_BYTES] = 0;
+    EXPECT(card_receive(recording, CARD_RECORDING_BYTES + 1, received, CARD_RECEIVED_BYTES).number == CARD_REFUSED_RECORDING_TOO_LONG);
+    recorded = 0;
+    while (recorded + batch <= most)
+        put_full_batch();
+    EXPECT(card_receive(recording, 68 * 300, received, CARD_RECEIVED_BYTES).batches == 300);
+    EXPECT(card_receive(recording, 68 * 301 - 1, received, CARD_RECEIVED_BYTES).batches == 300);
+    EXPECT(card_receive(recording, 68 * 301, received, CARD_RECEIVED_BYTES).number == CARD_REFUSED_TOO_MANY_BATCHES);
+    EXPECT(card_receive(recording, CARD_RECORDING_BYTES, NULL, 0).number == CARD_REFUSED_TOO_MANY_BATCHES);
+    EXPECT(card_receive(recording, CARD_RECORDING_BYTES + 1, NULL, 0).number == CARD_REFUSED_RECORDING_TOO_LONG);
+    /* null with length 0: no batch, and no room */
+    EXPECT(card_receive(recording, 68, NULL, 0).number == CARD_REFUSED_BUFFER_TOO_SHORT);
+    EXPECT(card_receive(NULL, 0, received, CARD_RECEIVED_BYTES).number == 0);
+    c = card_receive(NULL, 0, NULL, 0);
+    EXPECT(c.number == 0 && c.place == 0 && c.batches == 0 && c.bytes == 0 && c.pages == 0);
+}
+
 /* null with length 0 in each place: the same answers as a pointer to no elements gets */
 static void null_jobs(void) {
     const uint8_t *text = (const uint8_t *)"000009 4 3132\n";
@@ -456,5 +540,7 @@ int main(void) {
     }
     longest_following();
     followed_identities();
+    longest_receiving();
+    received_limits();
     return wrong;
 }

@@ -1,8 +1,8 @@
 #!/usr/bin/env python3
-"""The sending program against an outside decoder, Debian's multimon-ng.
+"""The sending program, and the receiving one, against an outside decoder, Debian's multimon-ng.
 
-    python3 tests/outside/check.py                      target/bin/page_send of this repository, seed 1, 60 drawn jobs
-    python3 tests/outside/check.py PROGRAM SEED DRAWN   another program, seed and number of drawn jobs
+    python3 tests/outside/check.py                                  page_send and page_receive of target/bin, seed 1, 60 drawn jobs
+    python3 tests/outside/check.py SENDING SEED DRAWN RECEIVING     other programs, seed and number of drawn jobs; fewer will do
 
 multimon-ng comes with `apt-get install multimon-ng`. Where it is missing the check says so and ends well.
 
@@ -14,6 +14,9 @@ group, every phrase of a book of 100 (R-6), messages that end just before, on an
 message in which messages and tones wait. The drawn jobs mix all of these. A job with phrases is sent with the book's file as the
 program's argument, any other without. The first difference is printed with its job, and the exit status is then 1.
 
+The bits of the sound are also what the receiving program gets (R-10), eight to a byte: its lines must be the pages that multimon-ng hears,
+in the same order, phrases as alphanumeric pages.
+
 The sound: 22050 samples a second, 16 bits each with sign, low byte first. A one is a low level and a zero a high one (the
 other way round multimon-ng hears nothing). Every job is heard at 512 and at 1200 bits a second. After the listing come 96 bits
 1010..., as if another transmission began.
@@ -21,7 +24,8 @@ other way round multimon-ng hears nothing). Every job is heard at 512 and at 120
 Options and conventions of multimon-ng 1.2.0:
 
 - `-b 0` turns its repair of bits off. One wrong bit in an address or message word is then a difference. To show this, the
-  check ends by spoiling listings on purpose, a bit at a time and once by exchanging two frames; each must be found.
+  check ends by spoiling listings on purpose, a bit at a time and once by exchanging two frames; each must be found. The receiving
+  program mends such a bit, and its lines must stay as they are.
 - `-p` shows a page that loses the signal. A page is printed only when something follows it; one whose address is the last
   word of all needs both `-p` and the bits behind the listing. Plain silence won't do: a steady high level is heard as
   addresses 0 to 7, a steady low one as more of the message.
@@ -160,10 +164,24 @@ def send(program, job):
     return [int(word, 16) for line in lines for word in line.split(" ")]
 
 
+def on_air(words):
+    """The bits of a transmission, and those behind it."""
+    return "".join(format(word, "032b") for word in words) + TAIL
+
+
 def sound(words, rate):
-    bits = "".join(format(word, "032b") for word in words) + TAIL
     return b"".join((LOW if bit == "1" else HIGH) * ((n + 1) * SAMPLES // rate - n * SAMPLES // rate)
-                    for n, bit in enumerate(bits))
+                    for n, bit in enumerate(on_air(words)))
+
+
+def receive(program, words, job):
+    """The receiving program prints the job's pages in the order in which their addresses go out."""
+    bits = on_air(words)
+    recording = int(bits, 2).to_bytes(len(bits) // 8, "big")
+    done = subprocess.run([program], input=recording, stdout=subprocess.PIPE, stderr=subprocess.PIPE)
+    lines = job_lines([(identity, ALPHA if kind == PHRASE else kind, text) for identity, kind, text in sending_order(job)])
+    if done.stdout != lines.encode():
+        raise Difference("the receiving program prints %r\n  expected %r" % (done.stdout[:2000], lines[:2000]))
 
 
 def hear(words, rate, all_numeric):
@@ -338,51 +356,72 @@ def finds(words, job, rate):
     return False
 
 
+def check(sending, receiving, job, rate, rng):
+    """A job is heard as it should be, and received; where there is a rate, at that rate a wrong bit is found, and it is mended."""
+    words = send(sending, job)
+    for each in RATES:
+        compare(words, job, each)
+    receive(receiving, words, job)
+    if rate is None:
+        return
+    wrong = spoilt(words, rng)
+    if not finds(wrong, job, rate):
+        raise Difference("a wrong bit wasn't found")
+    receive(receiving, wrong, job)
+
+
+def exchanged_frames_are_found(sending):
+    job = [(9, NUMERIC, b"12")]
+    words = send(sending, job)
+    first = PREAMBLE_WORDS + 1
+    words[first:first + 4] = words[first + 2:first + 4] + words[first:first + 2]
+    return finds(words, job, RATES[0])
+
+
+def program(arguments, at, name):
+    """The path of a program: an argument, or the one that is built here."""
+    built = os.path.join(os.path.dirname(os.path.abspath(__file__)), "..", "..", "target", "bin", name)
+    return os.path.abspath(arguments[at] if len(arguments) > at else built)
+
+
+def compared(jobs):
+    """What the jobs had in them."""
+    pages = dict.fromkeys(("tone", *SORTS.values()), 0)
+    ambiguous = cut = 0
+    for page in (page for job in jobs for page in job):
+        pages[SORTS.get(page[1], "tone")] += 1
+        ambiguous += is_ambiguous(page)
+        cut += page[1] == ALPHA and len(as_printed(page, False)[3]) > CUT
+    print("outside: %d jobs with %d pages compared at %s bits a second: %s" % (
+        len(jobs), sum(pages.values()), " and ".join(map(str, RATES)), ", ".join("%d %s" % (n, k) for k, n in pages.items())))
+    print("outside: %d of the texts have control characters or their names and are compared as printed only, %d of these in part" % (
+        ambiguous, cut))
+
+
 def main(arguments):
-    here = os.path.dirname(os.path.abspath(__file__))
-    program = os.path.abspath(arguments[0] if arguments else os.path.join(here, "..", "..", "target", "bin", "page_send"))
+    sending, receiving = program(arguments, 0, "page_send"), program(arguments, 3, "page_receive")
     seed = int(arguments[1]) if len(arguments) > 1 else 1
     drawn = int(arguments[2]) if len(arguments) > 2 else 60
     if shutil.which(DECODER) is None:
         print("outside: %s isn't installed, nothing compared" % DECODER)
         return 0
-    if not os.access(program, os.X_OK):
-        print("outside: no sending program at %s" % arguments[0] if arguments else "outside: target/bin/page_send isn't built")
-        return 2
+    for path in (sending, receiving):
+        if not os.access(path, os.X_OK):
+            print("outside: no program at %s" % path)
+            return 2
     rng = random.Random(seed)
     jobs = list(fixed_jobs(rng)) + [draw_job(rng) for _ in range(drawn)]
-    pages = dict.fromkeys(("tone", *SORTS.values()), 0)
-    ambiguous = cut = spoilings = 0
     for number, job in enumerate(jobs):
         try:
-            words = send(program, job)
-            for rate in RATES:
-                compare(words, job, rate)
+            check(sending, receiving, job, None if number % 3 else RATES[number % 2], rng)
         except Difference as difference:
             print("outside: job %d differs, %s\nthe job:\n%s" % (number + 1, difference, job_lines(job)), end="")
             return 1
-        for page in job:
-            pages[SORTS.get(page[1], "tone")] += 1
-            ambiguous += is_ambiguous(page)
-            cut += page[1] == ALPHA and len(as_printed(page, False)[3]) > CUT
-        if number % 3 == 0:
-            spoilings += 1
-            if not finds(spoilt(words, rng), job, RATES[number % 2]):
-                print("outside: a wrong bit wasn't found\nthe job:\n%s" % job_lines(job), end="")
-                return 1
-    job = [(9, NUMERIC, b"12")]
-    words = send(program, job)
-    first = PREAMBLE_WORDS + 1
-    words[first:first + 4] = words[first + 2:first + 4] + words[first:first + 2]
-    spoilings += 1
-    if not finds(words, job, RATES[0]):
+    if not exchanged_frames_are_found(sending):
         print("outside: two exchanged frames weren't found")
         return 1
-    print("outside: %d jobs with %d pages compared at %s bits a second: %s" % (
-        len(jobs), sum(pages.values()), " and ".join(map(str, RATES)), ", ".join("%d %s" % (n, k) for k, n in pages.items())))
-    print("outside: %d of the texts have control characters or their names and are compared as printed only, %d of these in part" % (
-        ambiguous, cut))
-    print("outside: %d spoilt listings found; no difference" % spoilings)
+    compared(jobs)
+    print("outside: %d spoilt listings found; all jobs received; no difference" % (-(-len(jobs) // 3) + 1))
     return 0
 
 

@@ -1,5 +1,5 @@
 //! The library and the independent implementation on the same work, in one run, as a Markdown table; then the library's slow engine
-//! and its fast one, and its following of one identity and its full reading.
+//! and its fast one, its following of one identity and its full reading, and its receiving and its reading.
 //!
 //!     bench [RUNS [MILLISECONDS]]
 //!
@@ -10,6 +10,7 @@
 mod clock;
 mod follow;
 mod measure;
+mod receive;
 
 use generate::words::Damage;
 use generate::{books, jobs, listings, words, Random};
@@ -40,8 +41,10 @@ fn main() {
     bench.correcting();
     bench.sending();
     bench.reading();
-    let cases = follow::cases();
-    bench.following(&cases);
+    let followed = follow::cases();
+    bench.following(&followed);
+    let recorded = receive::cases();
+    bench.receiving(&recorded);
     println!("\nThe library's slow engine: ratio of its time to that of the fast one, measured in the same way.\n");
     print_head("Slow", "Fast");
     bench.correcting_slowly();
@@ -50,7 +53,12 @@ fn main() {
         "\nThe library's following of one identity: ratio of its time to that of the full reading, measured in the same way.\n"
     );
     print_head("Following", "Reading");
-    bench.following_and_reading(&cases);
+    bench.following_and_reading(&followed);
+    println!(
+        "\nThe library's receiving of a recording: ratio of its time to that of reading its batches as words, measured in the same way.\n"
+    );
+    print_head("Receiving", "Reading");
+    bench.receiving_and_reading(&recorded);
 }
 
 struct Bench {
@@ -95,7 +103,7 @@ fn correct_alone(word: u32) -> Option<(u32, u32)> {
 
 impl Bench {
     fn new(effort: Effort) -> Self {
-        let longest = card::LISTING_BYTES.max(card::LINES_BYTES);
+        let longest = card::LISTING_BYTES.max(card::RECEIVED_BYTES);
         Bench { effort, random: Random::new(1), words: vec![0; card::WORDS], slots: vec![0; card::PAGES], bytes: vec![0; longest] }
     }
 

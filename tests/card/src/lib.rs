@@ -70,11 +70,26 @@ pub struct Following {
     pub lines: u32,
 }
 
+/// `struct card_receiving`.
+#[repr(C)]
+#[derive(Clone, Copy, Debug, PartialEq, Eq)]
+pub struct Receiving {
+    pub place: usize,
+    pub bytes: usize,
+    pub number: u32,
+    pub batches: u32,
+    pub pages: u32,
+    pub lost: u32,
+    pub orphans: u32,
+    pub changed: Changes,
+}
+
 /// Sizes that the header promises to suffice.
 pub const PAGES: usize = 48;
 pub const WORDS: usize = 5118;
 pub const LISTING_BYTES: usize = 46_062;
 pub const LINES_BYTES: usize = 48_000;
+pub const RECEIVED_BYTES: usize = 48_300;
 
 extern "C" {
     fn card_correct(word: u32) -> Word;
@@ -96,6 +111,7 @@ extern "C" {
     fn card_read_listing_slowly(listing: *const u8, listing_length: usize, out: *mut u8, out_length: usize) -> Reading;
     fn card_follow_words(identity: u32, words: *const u32, words_length: usize, out: *mut u8, out_length: usize) -> Following;
     fn card_follow_listing(identity: u32, listing: *const u8, listing_length: usize, out: *mut u8, out_length: usize) -> Following;
+    fn card_receive(bits: *const u8, bits_length: usize, out: *mut u8, out_length: usize) -> Receiving;
 }
 
 pub fn correct(word: u32) -> Word {
@@ -157,4 +173,9 @@ pub fn follow_words(identity: u32, words: &[u32], out: &mut [u8]) -> Following {
 pub fn follow_listing(identity: u32, listing: &[u8], out: &mut [u8]) -> Following {
     // SAFETY: as in send.
     unsafe { card_follow_listing(identity, listing.as_ptr(), listing.len(), out.as_mut_ptr(), out.len()) }
+}
+
+pub fn receive(bits: &[u8], out: &mut [u8]) -> Receiving {
+    // SAFETY: as in send.
+    unsafe { card_receive(bits.as_ptr(), bits.len(), out.as_mut_ptr(), out.len()) }
 }

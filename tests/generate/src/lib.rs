@@ -6,6 +6,7 @@ pub mod followed;
 pub mod jobs;
 pub mod listings;
 pub mod random;
+pub mod recordings;
 pub mod words;
 
 pub use random::Random;

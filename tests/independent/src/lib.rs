@@ -10,11 +10,12 @@ pub mod listing;
 pub mod placement;
 pub mod program;
 pub mod reader;
+pub mod receive;
 pub mod send;
 pub mod state;
 pub mod text;
 
-/// Why work is declined: a number of document 01's table as have it, and the place that goes with it.
+/// Why work is declined: a number of document 01's table as have it, and the place that goes with it.
 #[derive(Clone, Copy, Debug, PartialEq, Eq)]
 pub struct Refusal {
     pub number: u32,

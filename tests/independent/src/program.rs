@@ -1,10 +1,10 @@
-//! The sending, the reading and the following program: what each prints for its standard input, the sending program for a phrase book
-//! too, and the following program for an identity.
+//! The sending, the reading, the following and the receiving program: what each prints for its standard input, the sending program for a
+//! phrase book too, and the following program for an identity.
 
 use crate::book::NO_BOOK;
 use crate::listing::{self, BYTES_A_WORD};
 use crate::send::Accepted;
-use crate::{follow, number, reader, Refusal};
+use crate::{follow, number, reader, receive, Refusal};
 use std::ffi::OsString;
 use std::io::{self, Read, Write};
 
@@ -28,6 +28,11 @@ pub fn reading(input: &[u8]) -> Vec<u8> {
 /// What the following program prints for an identity and a listing.
 pub fn following(identity: u32, input: &[u8]) -> Vec<u8> {
     answer(input, |listing| Ok(follow::lines_of_listing(identity, listing)?.lines))
+}
+
+/// What the receiving program prints for a recording.
+pub fn receiving(input: &[u8]) -> Vec<u8> {
+    answer(input, |recording| Ok(receive::log_of_recording(recording)?.log.lines))
 }
 
 fn answer(input: &[u8], work: impl FnOnce(&[u8]) -> Result<Vec<u8>, Refusal>) -> Vec<u8> {
@@ -139,6 +144,22 @@ mod tests {
     }
 
     #[test]
+    fn a_recording_is_received() {
+        let job = b"000009 4 3132\n00000F 1\n";
+        let words = Accepted::new(job, NO_BOOK).unwrap().words();
+        let mut recording: Vec<u8> = words.iter().flat_map(|word| word.to_be_bytes()).collect();
+        assert_eq!(receiving(&recording), job);
+        assert_eq!(receiving(&recording[1..]), job);
+        assert_eq!(receiving(&recording[..recording.len() - 1]), b"");
+        assert_eq!(receiving(b""), b"");
+        recording.resize(MOST_INPUT, 0);
+        assert_eq!(receiving(&recording), job);
+        let batch = &recording[72..72 + 68];
+        assert_eq!(receiving(&batch.repeat(300)).len(), 300 * job.len());
+        assert_eq!(receiving(&batch.repeat(301)), b"refused 23 place 0\n");
+    }
+
+    #[test]
     fn arguments_that_name_an_identity() {
         let named = |arguments: &[&str]| named_identity(&arguments.iter().map(OsString::from).collect::<Vec<_>>());
         assert_eq!(named(&["000009"]), Some(9));
@@ -155,12 +176,13 @@ mod tests {
     #[test]
     fn long_inputs() {
         let most = [b'x'; MOST_INPUT + 1];
-        let programs: [fn(&[u8]) -> Vec<u8>; 5] = [
+        let programs: [fn(&[u8]) -> Vec<u8>; 6] = [
             |job| sending(job, NO_BOOK),
             |job| sending(job, b"4"),
             reading,
             |listing| following(9, listing),
             |listing| following(0x20_0000, listing),
+            receiving,
         ];
         for program in programs {
             assert_ne!(program(&most[1..]), b"refused 24 place 0\n");

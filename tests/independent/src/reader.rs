@@ -75,15 +75,25 @@ impl Open {
     }
 }
 
+/// Reads batch by batch: a page that is open goes on into the next one.
 #[derive(Default)]
-struct Reader {
-    log: Log,
+pub(crate) struct Reader {
+    pub log: Log,
     open: Option<Open>,
     groups: Vec<u32>,
     text: Vec<u8>,
 }
 
 impl Reader {
+    /// The words of a batch that begins with sync.
+    pub fn batch(&mut self, batch: &[u32]) {
+        self.log.changed.syncs += codeword::changed(batch[0], codeword::SYNC);
+        for (frame, pair) in batch[1..].chunks_exact(2).enumerate() {
+            self.word(pair[0], frame as u32);
+            self.word(pair[1], frame as u32);
+        }
+    }
+
     fn word(&mut self, word: u32, frame: u32) {
         let Some(near) = codeword::correct(word) else { return self.lose() };
         match codeword::meaning(near) {
@@ -105,7 +115,8 @@ impl Reader {
         self.close(true);
     }
 
-    fn close(&mut self, cut: bool) {
+    /// Prints the page that is open, if one is.
+    pub fn close(&mut self, cut: bool) {
         let Some(page) = self.open.take() else { return };
         page.print(&self.groups, cut, &mut self.text, &mut self.log.lines);
         self.groups.clear();
@@ -123,16 +134,10 @@ fn print_groups(groups: &[u32], lines: &mut Vec<u8>) {
     }
 }
 
-/// Reads batches that are complete and begin with sync, at least one and at most 300.
-fn read(words: &[u32]) -> Log {
+/// Reads batches that are complete and begin with sync.
+pub(crate) fn read(words: &[u32]) -> Log {
     let mut reader = Reader::default();
-    for batch in words.chunks_exact(BATCH_WORDS) {
-        reader.log.changed.syncs += codeword::changed(batch[0], codeword::SYNC);
-        for (frame, pair) in batch[1..].chunks_exact(2).enumerate() {
-            reader.word(pair[0], frame as u32);
-            reader.word(pair[1], frame as u32);
-        }
-    }
+    words.chunks_exact(BATCH_WORDS).for_each(|batch| reader.batch(batch));
     reader.close(false);
     reader.log
 }
@@ -172,20 +177,24 @@ pub fn log_of_listing(listing: &[u8]) -> Result<Log, Refusal> {
     Ok(read(&batches_of_listing(listing)?))
 }
 
-fn hand_over(log: Log, out: &mut [u8]) -> Result<Reading, Refusal> {
-    let bytes = log.lines.len();
-    out.get_mut(..bytes).ok_or(TOO_SHORT)?.copy_from_slice(&log.lines);
-    Ok(Reading { bytes, pages: log.pages, lost: log.lost, orphans: log.orphans, changed: log.changed })
+impl Log {
+    /// The lines over the front of the lent slice.
+    pub fn hand_over(&self, out: &mut [u8]) -> Result<Reading, Refusal> {
+        let &Log { ref lines, pages, lost, orphans, changed } = self;
+        let bytes = lines.len();
+        out.get_mut(..bytes).ok_or(TOO_SHORT)?.copy_from_slice(lines);
+        Ok(Reading { bytes, pages, lost, orphans, changed })
+    }
 }
 
 /// The page lines of a slice of words, over the front of the lent slice.
 pub fn read_words(words: &[u32], out: &mut [u8]) -> Result<Reading, Refusal> {
-    hand_over(log_of_words(words)?, out)
+    log_of_words(words)?.hand_over(out)
 }
 
 /// The page lines of a listing, over the front of the lent slice.
 pub fn read_listing(listing: &[u8], out: &mut [u8]) -> Result<Reading, Refusal> {
-    hand_over(log_of_listing(listing)?, out)
+    log_of_listing(listing)?.hand_over(out)
 }
 
 #[cfg(test)]

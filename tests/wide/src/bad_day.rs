@@ -18,6 +18,9 @@ const RATES: &[usize] = &[2, 5, 20, 100, 500];
 /// One transmission in so many is read slowly too.
 const SLOW_DAYS: usize = 10;
 
+/// One transmission in so many is received from a recording too.
+const RECORDED_DAYS: usize = 10;
+
 /// Two phrases.
 const BOOK: &[u8] = b"4142434445464748494A4B4C4D4E4F505152535455\n4142434445464748\n";
 
@@ -143,8 +146,8 @@ impl Comparison {
         self.damaged(transmission, &received)
     }
 
-    /// The damaged words one by one, together, and as a listing behind any preamble. In what the library reads, with either engine, an
-    /// identity is followed: in the words one of the job's, in the listing perhaps another.
+    /// The damaged words one by one, together, as a listing behind any preamble and now and then as a recording. In what the
+    /// library reads, with either engine, an identity is followed: in the words one of the job's, in the listing perhaps another.
     fn damaged(&mut self, transmission: &Transmission, received: &[u32]) -> Outcome {
         let listing = listings::of_words(&u32::rubbish(&mut self.random, PREAMBLE_WORDS), received);
         let identities = followed::identities(&mut self.random, transmission.job);
@@ -159,6 +162,9 @@ impl Comparison {
             self.count_by("bad day, listing", how, 0);
             let identity = self.random.pick(&identities);
             self.follow_identity(Received::Listing(&listing), &Ok(log), identity)?;
+        }
+        if self.random.once_in(RECORDED_DAYS) {
+            self.received_whole(received)?;
         }
         Ok(())
     }

@@ -1,13 +1,13 @@
 //! The wide comparison: the library and the independent implementation on the same generated inputs.
 //!
-//!     wide [ROUNDS [SEED [SENDING_PROGRAM READING_PROGRAM [SLOW_READING_PROGRAM [FOLLOWING_PROGRAM]]]]]
+//!     wide [ROUNDS [SEED [SENDING_PROGRAM READING_PROGRAM [SLOW_READING_PROGRAM [FOLLOWING_PROGRAM [RECEIVING_PROGRAM]]]]]]
 //!     wide all-words
 //!
 //! The second corrects every 32-bit word, one in 4,099 by the slow engine (R-14) too, and compares nothing else. Prints how many
 //! comparisons it made of each sort; at the first difference prints the input and both answers and ends with 1.
 //! What is compared: the answer, every unit of every lent buffer and the sentinels around it, and, for a declined call, that
 //! the buffers are as before. In whatever is read some identities are followed (R-4). What the library reads of a transmission with up
-//! to three wrong bits a word is judged by R-9.
+//! to three wrong bits a word is judged by R-9, and received from a recording (R-10).
 
 mod bad_day;
 mod compare;
@@ -15,6 +15,7 @@ mod engine;
 mod follow;
 mod lent;
 mod programs;
+mod receive;
 mod states;
 
 use compare::{Comparison, Difference, Outcome};
@@ -23,6 +24,9 @@ use independent::book::NO_BOOK;
 use independent::codeword::{address, message, IDLE, SYNC};
 use programs::Programs;
 use std::process::ExitCode;
+
+const USAGE: &str = "wide [ROUNDS [SEED [SENDING_PROGRAM READING_PROGRAM [SLOW_READING_PROGRAM [FOLLOWING_PROGRAM \
+                     [RECEIVING_PROGRAM]]]]]], or wide all-words";
 
 const ROUNDS: u64 = 3000;
 const SEED: u64 = 1;
@@ -39,9 +43,7 @@ fn main() -> ExitCode {
     let number = |at: usize, default: u64| arguments.get(at).map_or(Ok(default), |text| text.parse());
     let programs = Programs::named(&arguments[arguments.len().min(2)..]);
     let (Ok(rounds), Ok(seed), Ok(programs)) = (number(0, ROUNDS), number(1, SEED), programs) else {
-        eprintln!(
-            "wide [ROUNDS [SEED [SENDING_PROGRAM READING_PROGRAM [SLOW_READING_PROGRAM [FOLLOWING_PROGRAM]]]]], or wide all-words"
-        );
+        eprintln!("{USAGE}");
         return ExitCode::from(2);
     };
     println!("{rounds} rounds, seed {seed}");
@@ -107,6 +109,7 @@ fn limits(comparison: &mut Comparison) -> Outcome {
         all_near(comparison, codeword)?;
     }
     comparison.follow_limits()?;
+    comparison.receive_limits()?;
     for (number, job) in jobs::limits().iter().enumerate() {
         comparison.job(job, NO_BOOK)?;
         // to other jobs a book makes no difference, so that some of them are enough
@@ -218,6 +221,7 @@ fn round(comparison: &mut Comparison, random: &mut Random) -> Outcome {
         comparison.words(&words::slice(random))?;
     }
     comparison.follow_round(random)?;
+    comparison.receive_round(random)?;
     comparison.state_round(random)
 }
 

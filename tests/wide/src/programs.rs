@@ -1,7 +1,7 @@
 //! The programs, run as they are: what each prints for an input must be what the independent implementation says.
 
 use crate::compare::{shown, Comparison, Difference, Outcome};
-use generate::{books, followed, jobs, listings, Random};
+use generate::{books, followed, jobs, listings, recordings, Random};
 use independent::book::NO_BOOK;
 use independent::{program, reader};
 use std::ffi::{OsStr, OsString};
@@ -10,12 +10,14 @@ use std::os::unix::ffi::OsStringExt;
 use std::path::{Path, PathBuf};
 use std::process::{Command, Output, Stdio};
 
-/// Paths of the sending and of the reading program, and perhaps of the reading program on the slow engine and of the following program.
+/// Paths of the sending and of the reading program, and perhaps of the reading program on the slow engine, of the following program and
+/// of the receiving program.
 pub struct Programs {
     sending: String,
     reading: String,
     slow_reading: Option<String>,
     following: Option<String>,
+    receiving: Option<String>,
     /// The file that phrase books are written to.
     book: PathBuf,
 }
@@ -28,16 +30,17 @@ impl Drop for Programs {
 }
 
 impl Programs {
-    /// No programs, or two to four.
+    /// No programs, or two to five.
     pub fn named(paths: &[String]) -> Result<Option<Self>, ()> {
         let (sending, reading, others) = match paths {
             [] => return Ok(None),
-            [sending, reading, others @ ..] if others.len() <= 2 => (sending.clone(), reading.clone(), others),
+            [sending, reading, others @ ..] if others.len() <= 3 => (sending.clone(), reading.clone(), others),
             _ => return Err(()),
         };
-        let (slow_reading, following) = (others.first().cloned(), others.get(1).cloned());
+        let other = |number: usize| others.get(number).cloned();
+        let (slow_reading, following, receiving) = (other(0), other(1), other(2));
         let book = std::env::temp_dir().join(format!("wide-{}.book", std::process::id()));
-        Ok(Some(Programs { sending, reading, slow_reading, following, book }))
+        Ok(Some(Programs { sending, reading, slow_reading, following, receiving, book }))
     }
 
     /// Inputs around the most that is read, and small ones; the same in every run.
@@ -47,6 +50,7 @@ impl Programs {
                 let input: Vec<u8> = filling.iter().copied().cycle().take(length).collect();
                 self.send(comparison, &input, NO_BOOK)?;
                 self.read(comparison, &input)?;
+                self.receive(comparison, &input)?;
             }
         }
         self.send(comparison, b"000009 4 3132\n", NO_BOOK)?;
@@ -69,7 +73,11 @@ impl Programs {
         self.send(comparison, &job, &book)?;
         let longest = generate::words::one_long_page(&mut random, 300);
         self.read(comparison, &listings::listing(36, 0, &longest))?;
-        self.follow_limits(comparison)
+        self.follow_limits(comparison)?;
+        for recording in recordings::few() {
+            self.receive(comparison, &recording)?;
+        }
+        Ok(())
     }
 
     /// The sending program with books: numbers of phrases, books about the most that is looked at, and what is no book's file.
@@ -132,7 +140,8 @@ impl Programs {
         };
         self.send(comparison, &job, &book)?;
         let listing = listings::any(random);
-        self.read(comparison, &listing)
+        self.read(comparison, &listing)?;
+        self.receive(comparison, &recordings::any(random))
     }
 
     /// Without an argument where there is no book.
@@ -188,6 +197,14 @@ impl Programs {
         let Some(path) = &self.following else { return Ok(()) };
         compare(path, arguments, input, printed, Some(said))?;
         comparison.count("following program", 0);
+        Ok(())
+    }
+
+    /// Receives a recording.
+    fn receive(&self, comparison: &mut Comparison, input: &[u8]) -> Outcome {
+        let Some(path) = &self.receiving else { return Ok(()) };
+        compare(path, NO_ARGUMENTS, input, &program::receiving(input), Some(""))?;
+        comparison.count("receiving program", 0);
         Ok(())
     }
 }

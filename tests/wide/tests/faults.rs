@@ -5,7 +5,9 @@ use std::process::{Command, Output};
 
 fn wide(fault: &str) -> Output {
     let reading = env!("CARGO_BIN_EXE_stand_in_reading");
-    let arguments = ["5", "1", env!("CARGO_BIN_EXE_stand_in_sending"), reading, reading, env!("CARGO_BIN_EXE_stand_in_following")];
+    let sending = env!("CARGO_BIN_EXE_stand_in_sending");
+    let (following, receiving) = (env!("CARGO_BIN_EXE_stand_in_following"), env!("CARGO_BIN_EXE_stand_in_receiving"));
+    let arguments = ["5", "1", sending, reading, reading, following, receiving];
     Command::new(env!("CARGO_BIN_EXE_wide")).args(arguments).env("CARD_FAULT", fault).output().expect("wide runs")
 }
 
@@ -45,4 +47,6 @@ fn is_found(fault: &str) {
     // and so are the desk receiver's
     let followed = difference.contains("follow words: ") || difference.contains("follow listing: ");
     assert_eq!(followed, fault.starts_with("follow-"), "{fault}: {text}");
+    // and the receiver's
+    assert_eq!(difference.contains("receive: "), fault.starts_with("receive-"), "{fault}: {text}");
 }

@@ -1,5 +1,5 @@
-//! The programs on top of the independent implementation, and the mistakes in the line of a refusal, with a book and with an
-//! identity.
+//! The programs on top of the independent implementation, and the mistakes in the line of a refusal, with a book, with an
+//! identity and with a recording.
 
 use super::is;
 use independent::book::{phrases, NO_BOOK};
@@ -51,6 +51,23 @@ pub fn following() -> io::Result<()> {
             right => right,
         }),
     }
+}
+
+/// Prints for standard input what the receiving program prints.
+pub fn receiving() -> io::Result<()> {
+    program::run(|recording| {
+        let up_to = |end: u8| recording.split(|&byte| byte == end).next().unwrap_or_default();
+        match program::receiving(recording) {
+            _ if is("program-receive-28-for-24") && recording.len() > MOST_INPUT => b"refused 28 place 0\n".to_vec(),
+            _ if is("program-receive-65536-refused") && recording.len() == MOST_INPUT => b"refused 24 place 0\n".to_vec(),
+            _ if is("program-receive-up-to-a-zero") => program::receiving(up_to(0)),
+            _ if is("program-receive-up-to-a-newline") => program::receiving(up_to(b'\n')),
+            _ if is("program-receive-without-the-last-byte") => program::receiving(&recording[..recording.len().saturating_sub(1)]),
+            none if is("program-receive-no-batch-refused") && none.is_empty() => b"refused 22 place 0\n".to_vec(),
+            many if is("program-receive-nothing-for-23") && many.starts_with(b"refused 23") => vec![],
+            right => right,
+        }
+    })
 }
 
 /// What is printed, as it is right or, for some mistakes, wrong.
