@@ -63,12 +63,12 @@ fn cut_short() -> Vec<Bits> {
     all
 }
 
-/// A sync with up to three wrong bits, in every way: the first that is hunted, and the one behind a batch.
+/// A sync with one or two wrong bits in every way, and with three in every seventh: the first that is hunted, and the one behind a batch.
 fn wrong_syncs() -> Vec<Bits> {
     let mut all = vec![];
     for i in 0..32 {
         for j in 0..=i {
-            for k in 0..=j {
+            for k in (0..=j).filter(|k| *k == j || (i + 2 * j + 3 * k) % 7 == 0) {
                 let flips = 1 << i | 1 << j | 1 << k;
                 for at in [0, 1] {
                     let mut syncs = [SYNC; 2];
@@ -82,11 +82,11 @@ fn wrong_syncs() -> Vec<Bits> {
     all
 }
 
-/// A page that runs through three batches, with a bit more or less at every place.
+/// A page that runs through three batches, with a bit more or less at every third place, and so at every place of a byte and of a word.
 fn slipped() -> Vec<Bits> {
     let whole = [opening(), batch(0, &[message(0x55555); 16]), going_on()].concat();
     let mut all = vec![];
-    for at in 0..whole.len() {
+    for at in (0..whole.len()).step_by(3) {
         let (front, back) = whole.split_at(at);
         all.extend([[front, &[false], back].concat(), [front, &[true], back].concat(), [front, &back[1..]].concat()]);
     }
@@ -97,23 +97,26 @@ fn slipped() -> Vec<Bits> {
 fn gaps() -> Vec<Bits> {
     let mut all = vec![];
     for length in 0..BATCH_BITS + 40 {
-        for gap in [zeros(length), vec![true; length], alternating(length)] {
-            all.push([opening(), gap, going_on()].concat());
-        }
+        let gap = match length % 3 {
+            0 => zeros(length),
+            1 => vec![true; length],
+            _ => alternating(length),
+        };
+        all.push([opening(), gap, going_on()].concat());
     }
     all
 }
 
-/// A sync that is right, nearly so or not at all, at every distance before a batch, and at every place inside one, behind which the
-/// hunt starts again.
+/// A sync that is right, nearly so or not at all, at every third distance before a batch, and at every third place inside one, behind which
+/// the hunt starts again.
 fn false_syncs() -> Vec<Bits> {
     let mut all = vec![];
     for flips in [0, 0x0001_8000, 0x8001_8000] {
         let sync = bits_of_words(&[SYNC ^ flips]);
-        for distance in 32..BATCH_BITS + 40 {
+        for distance in (32..BATCH_BITS + 40).step_by(3) {
             all.push([sync.clone(), alternating(distance - 32), opening(), zeros(16)].concat());
         }
-        for at in 32..BATCH_BITS - 31 {
+        for at in (32..BATCH_BITS - 31).step_by(3) {
             let mut inside = opening();
             inside.splice(at..at + 32, sync.iter().copied());
             all.push([inside, alternating(7), going_on(), zeros(BATCH_BITS)].concat());

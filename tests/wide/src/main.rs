@@ -1,10 +1,12 @@
 //! The wide comparison: the library and the independent implementation on the same generated inputs.
 //!
 //!     wide [ROUNDS [SEED [SENDING_PROGRAM READING_PROGRAM [SLOW_READING_PROGRAM [FOLLOWING_PROGRAM [RECEIVING_PROGRAM]]]]]]
+//!     wide programs SEED SENDING_PROGRAM READING_PROGRAM [..]
 //!     wide all-words
 //!
-//! The second corrects every 32-bit word, one in 4,099 by the slow engine (R-14) too, and compares nothing else. Prints how many
-//! comparisons it made of each sort; at the first difference prints the input and both answers and ends with 1.
+//! The second has the programs alone, about the limits. The third corrects every 32-bit word, one in 4,099 by the slow engine (R-14)
+//! too, and compares nothing else. Prints how many comparisons it made of each sort; at the first difference prints the input and both
+//! answers and ends with 1.
 //! What is compared: the answer, every unit of every lent buffer and the sentinels around it, and, for a declined call, that
 //! the buffers are as before. In whatever is read some identities are followed (R-4). What the library reads of a transmission with up
 //! to three wrong bits a word is judged by R-9, and received from a recording (R-10).
@@ -26,7 +28,7 @@ use programs::Programs;
 use std::process::ExitCode;
 
 const USAGE: &str = "wide [ROUNDS [SEED [SENDING_PROGRAM READING_PROGRAM [SLOW_READING_PROGRAM [FOLLOWING_PROGRAM \
-                     [RECEIVING_PROGRAM]]]]]], or wide all-words";
+                     [RECEIVING_PROGRAM]]]]]], programs in place of ROUNDS, or wide all-words";
 
 const ROUNDS: u64 = 3000;
 const SEED: u64 = 1;
@@ -40,16 +42,19 @@ fn main() -> ExitCode {
         say_if_stand_in();
         return all_words();
     }
+    let alone = arguments.first().is_some_and(|word| word == "programs");
     let number = |at: usize, default: u64| arguments.get(at).map_or(Ok(default), |text| text.parse());
     let programs = Programs::named(&arguments[arguments.len().min(2)..]);
-    let (Ok(rounds), Ok(seed), Ok(programs)) = (number(0, ROUNDS), number(1, SEED), programs) else {
+    let rounds = if alone { Ok(0) } else { number(0, ROUNDS) };
+    let (Ok(rounds), Ok(seed), Ok(programs)) = (rounds, number(1, SEED), programs) else {
         eprintln!("{USAGE}");
         return ExitCode::from(2);
     };
     println!("{rounds} rounds, seed {seed}");
     say_if_stand_in();
     let mut comparison = Comparison::new(seed);
-    let outcome = run(&mut comparison, rounds, seed, programs.as_ref());
+    let about_the_limits = if alone { Ok(()) } else { limits(&mut comparison) };
+    let outcome = about_the_limits.and_then(|()| run(&mut comparison, rounds, seed, programs.as_ref()));
     print_counts(&comparison);
     match outcome {
         Ok(()) => {
@@ -89,7 +94,6 @@ fn all_words() -> ExitCode {
 }
 
 fn run(comparison: &mut Comparison, rounds: u64, seed: u64, programs: Option<&Programs>) -> Outcome {
-    limits(comparison)?;
     if let Some(programs) = programs {
         programs.limits(comparison)?;
     }

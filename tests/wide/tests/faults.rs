@@ -7,7 +7,8 @@ fn wide(fault: &str) -> Output {
     let reading = env!("CARGO_BIN_EXE_stand_in_reading");
     let sending = env!("CARGO_BIN_EXE_stand_in_sending");
     let (following, receiving) = (env!("CARGO_BIN_EXE_stand_in_following"), env!("CARGO_BIN_EXE_stand_in_receiving"));
-    let arguments = ["5", "1", sending, reading, reading, following, receiving];
+    let rounds = if fault.starts_with("program-") { "programs" } else { "5" };
+    let arguments = [rounds, "1", sending, reading, reading, following, receiving];
     Command::new(env!("CARGO_BIN_EXE_wide")).args(arguments).env("CARD_FAULT", fault).output().expect("wide runs")
 }
 
