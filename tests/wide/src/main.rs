@@ -28,7 +28,7 @@ use programs::Programs;
 use std::process::ExitCode;
 
 const USAGE: &str = "wide [ROUNDS [SEED [SENDING_PROGRAM READING_PROGRAM [SLOW_READING_PROGRAM [FOLLOWING_PROGRAM \
-                     [RECEIVING_PROGRAM]]]]]], programs in place of ROUNDS, or wide all-words";
+                     [RECEIVING_PROGRAM]]]]]], with programs in place of ROUNDS the programs alone; or wide all-words";
 
 const ROUNDS: u64 = 3000;
 const SEED: u64 = 1;
