@@ -285,6 +285,14 @@ fn asked() -> &'static str {
     ASKED.get_or_init(|| std::env::var("CARD_FAULT").unwrap_or_default())
 }
 
+/// The line of a page that is closed, whose groups are taken.
+fn closed(page: &reader::Open, groups: &mut Vec<u32>, cut: bool) -> Vec<u8> {
+    let mut line = vec![];
+    page.print(groups, cut, &mut vec![], &mut line);
+    groups.clear();
+    line
+}
+
 fn is(fault: &str) -> bool {
     debug_assert!(FAULTS.contains(&fault));
     asked() == fault

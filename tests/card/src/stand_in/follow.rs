@@ -1,7 +1,7 @@
 //! The desk receiver, and the mistakes that only it makes. It goes through every slot, and is neither of the independent
 //! implementation's two ways.
 
-use super::is;
+use super::{closed, is};
 use crate::Following;
 use independent::codeword::{self, Meaning};
 use independent::reader::{self, Log, Open};
@@ -230,11 +230,7 @@ impl Receiver {
     }
 
     fn close(&mut self, cut: bool) {
-        let Some(page) = self.open.take() else { return };
-        let mut line = vec![];
-        page.print(&self.groups, cut, &mut vec![], &mut line);
-        self.groups.clear();
-        self.lines.push(line);
+        self.lines.extend(self.open.take().map(|page| closed(&page, &mut self.groups, cut)));
     }
 }
 

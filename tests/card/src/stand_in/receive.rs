@@ -1,7 +1,7 @@
 //! The receiver, and the mistakes that only it makes. It makes a list of what it meets, batches and tests that fail, and then
 //! hears that list: neither of the independent implementation's two ways.
 
-use super::is;
+use super::{closed, is};
 use crate::{Changes, Receiving, RECEIVED_BYTES};
 use independent::codeword::{self, Meaning, SYNC};
 use independent::listing::MOST_BATCHES;
@@ -294,11 +294,7 @@ impl Heard {
     }
 
     fn close(&mut self, cut: bool) {
-        let Some(page) = self.open.take() else { return };
-        let mut line = vec![];
-        page.print(&self.groups, cut, &mut vec![], &mut line);
-        self.groups.clear();
-        self.lines.push(line);
+        self.lines.extend(self.open.take().map(|page| closed(&page, &mut self.groups, cut)));
     }
 
     /// The answer with so many bytes written, as it is right or, for some mistakes, wrong.
