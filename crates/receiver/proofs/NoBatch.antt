@@ -3,13 +3,12 @@ use mathlib.Core.Path.{_≡_, ap, _∙_}
 use mathlib.Core.Bool.{false}
 use mathlib.Core.List.{List, []}
 use Prim.Native.Nat.{ℕ, _≤_, zero-le}
-use native.Mathlib.Omega.{arith}
 use lib.ListN.{length}
 use borrow.Author.Tests.{le-ltb}
 use Rattle.reader.specs.Lines.{linesHeard}
 use Rattle.receiver.specs.Stretches.{isBatch, huntFrom, stretchesOf, batchesIn}
 use Rattle.receiver.specs.Answers.{nothing, heardAll, heardBits, totalsOf, receiveBits, linesReceived}
-use Rattle.receiver.specs.NoBatch.{Unheard, NoBatch}
+use Rattle.receiver.specs.NoBatch.{NoBatch}
 use Rattle.receiver.specs.declared.Receiving.{Receiving}
 use Rattle.receiver.specs.declared.Receiving.the-variants.{Received}
 use Rattle.receiver.proofs.StretchLaws.{batches-none, stretches-none, stretches-all}

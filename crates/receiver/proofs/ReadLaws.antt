@@ -38,7 +38,7 @@ module _ (s : List ℕ) (p : ℕ) where
       ap (λ (w : ℕ). not (isSync (nearest w))) (tab-at (λ k. wordAt s (p + 32 * k)) (17 * batchesFrom s p) (17 * q) 0 (omega arith) ∙ ap (wordAt s) at)
       ∙ ap not (batch-synced s (p + 544 * q) (batches-are s p q l))
 
-  module _ (b room : ℕ) (a : Ahead s p b room) where
+  module _ (b space room : ℕ) (a : Ahead s p b space room) where
     abbrev h : Heard
     h = heardOn s r
 

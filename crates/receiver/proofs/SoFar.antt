@@ -117,13 +117,14 @@ module _ (s old : List ℕ) where
         pub so-far-inside : t .bytes ≤ length lines
         so-far-inside = omega (arith, so-far-length, x .most .bytes, x .few)
 
-        pub so-far-ahead : length s ≤ 65536 → Ahead s q b (length (take (length lines - t .bytes) (drop (t .bytes) lines)))
-        so-far-ahead short = record {
+        pub so-far-ahead : (words : ℕ) → 5100 ≤ words → length s ≤ 65536 → Ahead s q b words (length (take (length lines - t .bytes) (drop (t .bytes) lines)))
+        so-far-ahead words enough short = record {
           short = short;
           inside = so-far-within;
           count = eb;
           some = some;
           few = omega arith;
+          whole = omega arith;
           space = omega (arith, ap length (to-end (t .bytes) lines), length-drop (t .bytes) lines, so-far-length, x .most .bytes);
         }
 

@@ -11,13 +11,14 @@ use Rattle.receiver.specs.declared.Totals.{Totals}
 abbrev pub stretchesFrom : List ℕ → ℕ → List Stretch
 stretchesFrom s p = stretchesIn s (bitCount s - p) p
 
--- there is a stretch of b batches, 300 at most, at position p, and room for its lines
-pub record Ahead (s : List ℕ) (p b room : ℕ) : Type 0 where
+-- there is a stretch of b batches, 300 at most, at position p, and room for its words and its lines
+pub record Ahead (s : List ℕ) (p b words room : ℕ) : Type 0 where
   pub short : length s ≤ 65536
   pub inside : p ≤ bitCount s
   pub count : b ≡ batchesFrom s p
   pub some : 1 ≤ b
   pub few : b ≤ 300
+  pub whole : 17 * b ≤ words
   pub space : 161 * b ≤ room
 
 -- no more is reported than so many batches can have

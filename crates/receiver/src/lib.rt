@@ -134,11 +134,6 @@ fn fill_words(bits: &[u8], p: usize, words: &mut [u32])
     }
 }
 
-// Room for the words of 300 batches.
-fn blank_words() -> [u32; 5100] {
-    [0u32; 5100]
-}
-
 // The report on nothing.
 fn no_totals() -> Totals
     ensures { λ r. ⌜ r ≡ totalsOf 0 nothing ⌝ }
@@ -153,14 +148,13 @@ fn no_totals() -> Totals
     }
 }
 
-// Reads the stretch of b batches at position p: its lines go over the front of the bytes. All its batches begin with sync and there is
+// Reads the stretch of b batches at position p, with room lent for its words: its lines go over the front of the bytes. All its batches begin with sync and there is
 // room, so the reader declines nothing.
-fn read_stretch(bits: &[u8], p: usize, b: usize, out: &mut [u8]) -> Totals
-    requires { ⌜ Ahead (now bits) p b (length (now out)) ⌝ }
+fn read_stretch(bits: &[u8], p: usize, b: usize, words: &mut [u32], out: &mut [u8]) -> Totals
+    requires { ⌜ Ahead (now bits) p b (length (now words)) (length (now out)) ⌝ }
     ensures { λ r. ⌜ r ≡ totalsOf b (heardOn (now (bits .entry)) (stretchAt (now (bits .entry)) p)) ⌝ }
     ensures { λ _. ⌜ now (out .exit) ≡ over (now (out .entry)) (linesHeard (heardOn (now (bits .entry)) (stretchAt (now (bits .entry)) p) .pages)) ⌝ }
 {
-    let mut words = blank_words();
     let n = 17 * b;
     fill_words(bits, p, &mut words[..n]);
     let cut = p + 544 * b + 544 <= 8 * bits.len();
@@ -202,9 +196,10 @@ fn add(t: Totals, u: Totals) -> Totals
     }
 }
 
-// Receives a recording: the lines of its pages go over the front of the lent lines, for which there is room.
-fn receive_all(bits: &[u8], lines: &mut [u8]) -> Receiving
-    requires { ⌜ (length (now bits) ≤ 65536) × (48300 ≤ length (now lines)) ⌝ }
+// Receives a recording: the lines of its pages go over the front of the lent lines, for which there is room. The words are room for
+// those of a stretch, which is lent once, since to clear it would take longer than to read a short one.
+fn receive_all(bits: &[u8], words: &mut [u32], lines: &mut [u8]) -> Receiving
+    requires { ⌜ (length (now bits) ≤ 65536) × (5100 ≤ length (now words)) × (48300 ≤ length (now lines)) ⌝ }
     ensures { λ r. ⌜ r ≡ receiveBits (now (bits .entry)) (length (now (lines .entry))) ⌝ }
     ensures { λ r. ⌜ take (totalsReceived r .bytes) (now (lines .exit)) ≡ linesReceived r (now (bits .entry)) ⌝ }
 {
@@ -220,10 +215,15 @@ fn receive_all(bits: &[u8], lines: &mut [u8]) -> Receiving
             return Receiving::Declined(Refusal::TooMany);
         }
         let at = t.bytes;
-        let more = read_stretch(bits, q, b, &mut lines[at..]);
+        let more = read_stretch(bits, q, b, words, &mut lines[at..]);
         t = add(t, more);
         p = q + 544 * b;
     }
+}
+
+// Room for the words of 300 batches.
+fn blank_words() -> [u32; 5100] {
+    [0u32; 5100]
 }
 
 // Room for the lines of 300 batches: ten bytes a slot, and one more for each page that a failed test cuts short.
@@ -240,8 +240,9 @@ pub fn receive(bits: &[u8], out: &mut [u8]) -> Receiving
     if 65536 < bits.len() {
         return Receiving::Declined(Refusal::TooLong);
     }
+    let mut words = blank_words();
     let mut lines = blank_lines();
-    let Receiving::Received(t) = receive_all(bits, &mut lines) else {
+    let Receiving::Received(t) = receive_all(bits, &mut words, &mut lines) else {
         return Receiving::Declined(Refusal::TooMany);
     };
     let n = t.bytes;
