@@ -148,8 +148,8 @@ fn no_totals() -> Totals
     }
 }
 
-// Reads the stretch of b batches at position p, with room lent for its words: its lines go over the front of the bytes. All its batches begin with sync and there is
-// room, so the reader declines nothing.
+// Reads the stretch of b batches at position p, with room lent for its words: its lines go over the front of the bytes. All its batches
+// begin with sync and there is room, so the reader declines nothing.
 fn read_stretch(bits: &[u8], p: usize, b: usize, words: &mut [u32], out: &mut [u8]) -> Totals
     requires { ⌜ Ahead (now bits) p b (length (now words)) (length (now out)) ⌝ }
     ensures { λ r. ⌜ r ≡ totalsOf b (heardOn (now (bits .entry)) (stretchAt (now (bits .entry)) p)) ⌝ }
