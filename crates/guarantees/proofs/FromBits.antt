@@ -26,7 +26,7 @@ use Rattle.reader.specs.Answers.{unsynced, firstUnsynced, judgeDecoded, judgeLi
 use Rattle.reader.specs.declared.Reading.{Reading}
 use Rattle.reader.specs.declared.Verdict.the-variants.{Sound}
 use Rattle.reader.proofs.Laws.{readable}
-use Rattle.receiver.specs.Bits.{wordAt}
+use Rattle.receiver.specs.Bits.{wordFrom}
 use Rattle.receiver.specs.Answers.{receiveBits}
 use Rattle.receiver.proofs.BitLaws.{word-small}
 use Rattle.guarantees.specs.FromBits.{Recorded, wordsFrom, Clean, AsListed, FromBits}
@@ -105,8 +105,8 @@ module _ (l : List ℕ) (clean : Clean l) (bits : List ℕ) (t : ℕ) (rec : Rec
     corrected : nearest (getD words k 0) ≡ nearest (getD (wordsOf l) k 0)
     corrected =
         let c = getD (wordsOf l) k 0 in
-        let w = wordAt bits (t + 32 * k) in
-        ap nearest (tab-at (λ i. wordAt bits (t + 32 * i)) (17 * b) k 0 (omega (arith, there .count)))
+        let w = wordFrom bits (t + 32 * k) in
+        ap nearest (tab-at (λ i. wordFrom bits (t + 32 * i)) (17 * b) k 0 (omega (arith, there .count)))
         ∙ correction-theorem .reads w c (word-small bits (t + 32 * k)) (record { codeword = obeying; close = omega (arith, rec .flips k h) })
         ∙ sym (correction-theorem .reads c c (obeying .fits) (record { codeword = obeying; close = omega (arith, distance-self c) }))
 
@@ -120,7 +120,7 @@ module _ (l : List ℕ) (clean : Clean l) (bits : List ℕ) (t : ℕ) (rec : Rec
 
   -- and the same is heard
   heard : heardIn words ≡ recounted (heardIn (wordsOf l)) (changesIn words)
-  heard = heard-same words (wordsOf l) (tab-length (λ i. wordAt bits (t + 32 * i)) (17 * b) ∙ sym (there .count)) corrected
+  heard = heard-same words (wordsOf l) (tab-length (λ i. wordFrom bits (t + 32 * i)) (17 * b) ∙ sym (there .count)) corrected
 
   module _ (room : ℕ) where
     -- what reading the listing answers, and what receiving the recording does
@@ -135,7 +135,7 @@ module _ (l : List ℕ) (clean : Clean l) (bits : List ℕ) (t : ℕ) (rec : Rec
         rw (n, there .count, listing-read)
         (received-as rec b (there .count) (there .limits .some) (there .limits .few) synced (heardIn (wordsOf l)) (changesIn words) heard room)
 
-    pub as-listed : AsListed bits t l room
+    as-listed : AsListed bits t l room
     as-listed =
         record {
           counts = λ e. answered ∙ ap (asReceived _ _) e;

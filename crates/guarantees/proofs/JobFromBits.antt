@@ -24,7 +24,7 @@ use Rattle.reader.specs.declared.Changes.{Changes}
 use Rattle.reader.specs.declared.Reading.{Reading}
 use Rattle.reader.specs.declared.Reading.the-variants as reading
 use Rattle.reader.proofs.Laws.{sound-words}
-use Rattle.receiver.specs.Bits.{wordAt}
+use Rattle.receiver.specs.Bits.{wordFrom}
 use Rattle.receiver.specs.Answers.{receiveBits, linesReceived, numberOf}
 use Rattle.receiver.specs.declared.Receiving.the-variants.{Declined}
 use Rattle.receiver.specs.declared.Refusal.the-variants.{NoRoom}
@@ -79,7 +79,7 @@ module _ (xs : List Sending) (a : AllAllowed xs) (bits : List ℕ) (t : ℕ) (re
         ap length got-is,
         length-append (take 18 sent) words,
         front-size,
-        tab-length (λ k. wordAt bits (t + 32 * k)) (17 * b),
+        tab-length (λ k. wordFrom bits (t + 32 * k)) (17 * b),
         sent-size,
       )
 
@@ -88,8 +88,8 @@ module _ (xs : List Sending) (a : AllAllowed xs) (bits : List ℕ) (t : ℕ) (re
   got-behind = ap (drop 18) got-is ∙ drop-at (take 18 sent) words 18 front-size
 
   -- one of them
-  got-at : (k : ℕ) → k < 17 * b → getD got (18 + k) 0 ≡ wordAt bits (t + 32 * k)
-  got-at k l = sym (getD-drop 18 got k 0) ∙ ap (λ (w : List ℕ). getD w k 0) got-behind ∙ tab-at (λ i. wordAt bits (t + 32 * i)) (17 * b) k 0 l
+  got-at : (k : ℕ) → k < 17 * b → getD got (18 + k) 0 ≡ wordFrom bits (t + 32 * k)
+  got-at k l = sym (getD-drop 18 got k 0) ∙ ap (λ (w : List ℕ). getD w k 0) got-behind ∙ tab-at (λ i. wordFrom bits (t + 32 * i)) (17 * b) k 0 l
 
   module _ (k : ℕ) (l : k < length got) where
     -- the preamble is as it was sent, and each other word has 32 bits
@@ -146,7 +146,7 @@ module _ (xs : List Sending) (a : AllAllowed xs) (bits : List ℕ) (t : ℕ) (re
     -- what reading the recorded words answers
     words-read : readWords words room ≡ printedInto (heardIn words) room
     unfolding readStretch
-    words-read = rw (sound-words words b (batches-least a) (sendings-limits a .most) (tab-length (λ k. wordAt bits (t + 32 * k)) (17 * b)) synced)
+    words-read = rw (sound-words words b (batches-least a) (sendings-limits a .most) (tab-length (λ k. wordFrom bits (t + 32 * k)) (17 * b)) synced)
 
     -- receiving the recording answers the same
     pub answer-is : receiveBits bits room ≡ asReceived b changes (readWords words room)

@@ -18,8 +18,8 @@ use Rattle.reader.specs.declared.Changes.{Changes}
 use Rattle.reader.specs.declared.Reading.{Reading}
 use Rattle.reader.specs.declared.Reading.the-variants as reading
 use Rattle.reader.proofs.SyncLaws.{sync-test}
-use Rattle.receiver.specs.Bits.{bitCount, wordAt}
-use Rattle.receiver.specs.Stretches.{isBatch, huntFrom, batchesFrom, Stretch, endOf, stretchAt, stretchesOf, batchesIn}
+use Rattle.receiver.specs.Bits.{bitCount, wordFrom}
+use Rattle.receiver.specs.Stretches.{isBatch, huntFrom, batchesFrom, Stretch, stretchEnd, stretchAt, stretchesOf, batchesFound}
 use Rattle.receiver.specs.Progress.{stretchesFrom}
 use Rattle.receiver.specs.Answers.{isCut, heardOn, heardAll, heardBits, totalsOf, reported, receiveBits, linesReceived}
 use Rattle.receiver.specs.declared.Receiving.{Receiving}
@@ -84,20 +84,20 @@ module _ {bits : List ℕ} {t : ℕ} {sent : List ℕ} (rec : Recorded bits t se
 
   -- before the true first sync there is no batch
   before : (p : ℕ) → p < t → isBatch bits p ≡ false
-  before p l = batch-not bits p (far-sync (wordAt bits p) (word-small bits p) (omega (arith, rec .clear p l)))
+  before p l = batch-not bits p (far-sync (wordFrom bits p) (word-small bits p) (omega (arith, rec .clear p l)))
 
   -- there they are, one directly behind the other
   each : (q : ℕ) → q < b → isBatch bits (t + 544 * q) ≡ true
   each q l =
       let at : t + 544 * q ≡ t + 32 * (17 * q) = omega arith in
-      let word : wordAt bits (t + 544 * q) ≡ getD words (17 * q) 0 =
-      ap (wordAt bits) at ∙ sym (tab-at (λ k. wordAt bits (t + 32 * k)) (17 * b) (17 * q) 0 (omega arith)) in
+      let word : wordFrom bits (t + 544 * q) ≡ getD words (17 * q) 0 =
+      ap (wordFrom bits) at ∙ sym (tab-at (λ k. wordFrom bits (t + 32 * k)) (17 * b) (17 * q) 0 (omega arith)) in
       batch-is bits (t + 544 * q) (omega (arith, rec .whole)) (ap (λ (w : ℕ). isSync (nearest w)) word ∙ not-false _ (synced q l))
 
   -- and behind them there is none
-  behind : stretchesFrom bits (endOf stretch) ≡ []
+  behind : stretchesFrom bits (stretchEnd stretch) ≡ []
   behind =
-      let p = endOf stretch in
+      let p = stretchEnd stretch in
       let inside : p ≤ bitCount bits = omega (arith, rec .whole) in
       let late : bitCount bits < p + 544 = omega (arith, rec .ends) in
       let last : huntFrom bits p ≡ bitCount bits = hunt-none bits p p inside (λ q l m. absurd (omega arith)) late in
@@ -112,7 +112,7 @@ module _ {bits : List ℕ} {t : ℕ} {sent : List ℕ} (rec : Recorded bits t se
       let found : stretchAt bits (huntFrom bits 0) ≡ stretch = rw (first, count) in
       stretches-all bits
       ∙ stretches-next bits 0 (rw (first, count) least)
-      ∙ ap (λ (r : Stretch). r ∷ stretchesFrom bits (endOf r)) found
+      ∙ ap (λ (r : Stretch). r ∷ stretchesFrom bits (stretchEnd r)) found
       ∙ ap (λ (rs : List Stretch). stretch ∷ rs) behind
 
   -- it is not cut short
@@ -123,9 +123,9 @@ module _ {bits : List ℕ} {t : ℕ} {sent : List ℕ} (rec : Recorded bits t se
       ap (heardAll bits) one-stretch ∙ then-nothing (heardOn bits stretch) ∙ ap (λ (x : Bool). heardStretch x words) whole
 
   -- its batches are all
-  counted : batchesIn (stretchesOf bits) ≡ b
-  unfolding batchesIn
-  counted = ap batchesIn one-stretch ∙ omega arith
+  counted : batchesFound (stretchesOf bits) ≡ b
+  unfolding batchesFound
+  counted = ap batchesFound one-stretch ∙ omega arith
 
   -- where the words are heard so, whatever the count of changed bits
   module _ (h : Heard) (c : Changes) (e : heardIn words ≡ recounted h c) (room : ℕ) where

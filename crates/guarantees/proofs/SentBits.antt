@@ -18,15 +18,15 @@ use Rattle.codeword.specs.Code.{sync, weight}
 use Rattle.codeword.specs.Nearest.{distance}
 use Rattle.codeword.proofs.NearestLaws.{distance-self}
 use Rattle.text.specs.Coding.{bitsFrom}
-use Rattle.text.proofs.BitLaws.{low-same, low-bits, cut-bit, bits-back, bits-add, bits-same}
+use Rattle.text.proofs.BitLaws.{cut-bit, bits-of, bits-add, bits-same}
 use Rattle.placement.specs.Placement.{batches}
 use Rattle.transmission.specs.Sending.{Sending, sendingsOf, placementOf, AllAllowed}
 use Rattle.transmission.specs.Transmission as transmission
 use Rattle.transmission.specs.Transmission.{codewordsOf, preamble, batchWord, transmissionOf}
 use Rattle.transmission.proofs.Sendings.{sendings-limits, accepted-sendings}
 use Rattle.transmission.proofs.TransmissionLaws.{word-in, transmission-length, transmission-at, transmission-fits, batches-least}
-use Rattle.receiver.specs.Bits.{bitAt, wordAt}
-use Rattle.guarantees.specs.FromBits.{Recorded, bytesOf, SentBits}
+use Rattle.receiver.specs.Bits.{bitAt, wordFrom}
+use Rattle.guarantees.specs.FromBits.{Recorded, recordingOf, SentBits}
 
 -- ---- words as bytes
 
@@ -43,10 +43,7 @@ whole-word : (w : ℕ) → w < 2 ^ 32 → bitsFrom (bitIn w) 0 32 0 ≡ w
 whole-word w h =
     let up : (b : ℕ) → b < 32 → bitIn w (0 + (32 - (b + 1))) ≡ w / 2 ^ b % 2 =
     λ b l. let e : 31 - (0 + (32 - (b + 1))) ≡ b = omega arith in ap (λ (x : ℕ). w / 2 ^ x % 2) e in
-    bits-back (bitIn w) 0 32
-    ∙ low-same (λ b. bitIn w (0 + (32 - (b + 1)))) (λ b. w / 2 ^ b % 2) 32 up
-    ∙ low-bits w 32
-    ∙ omega arith
+    bits-of (bitIn w) 0 32 w up ∙ omega arith
 
 -- bit j of a word is a bit of its byte j / 8
 byte-bit : (w i j : ℕ) → j < 32 → i ≡ j / 8 → w / 2 ^ (24 - 8 * i) % 256 / 2 ^ (7 - j % 8) % 2 ≡ bitIn w j
@@ -58,13 +55,13 @@ byte-bit w i j h e =
 
 module _ (words : List ℕ) where
   -- four bytes a word
-  bytes-length : length (bytesOf words) ≡ 4 * length words
-  unfolding bytesOf
+  bytes-length : length (recordingOf words) ≡ 4 * length words
+  unfolding recordingOf
   bytes-length = tab-length (λ i. getD words (i / 4) 0 / 2 ^ (24 - 8 * (i % 4)) % 256) (4 * length words)
 
   -- bit j of word k
-  sent-bit : (k j : ℕ) → j < 32 → k < length words → bitAt (bytesOf words) (32 * k + j) ≡ bitIn (getD words k 0) j
-  unfolding bitAt bytesOf
+  sent-bit : (k j : ℕ) → j < 32 → k < length words → bitAt (recordingOf words) (32 * k + j) ≡ bitIn (getD words k 0) j
+  unfolding bitAt recordingOf
   sent-bit k j h l =
       let p = 32 * k + j in
       let index : p / 8 / 4 ≡ k = omega arith in
@@ -77,24 +74,24 @@ module _ (words : List ℕ) where
 
   -- the bits from bit j of word k on, where they stay inside it
   bits-inside : (k j n : ℕ) → j + n ≤ 32 → k < length words
-      → bitsFrom (bitAt (bytesOf words)) (32 * k + j) n 0 ≡ bitsFrom (bitIn (getD words k 0)) j n 0
+      → bitsFrom (bitAt (recordingOf words)) (32 * k + j) n 0 ≡ bitsFrom (bitIn (getD words k 0)) j n 0
   bits-inside k j n h l =
-      bits-same (bitAt (bytesOf words)) (bitIn (getD words k 0)) (32 * k + j) j n 0
+      bits-same (bitAt (recordingOf words)) (bitIn (getD words k 0)) (32 * k + j) j n 0
       (λ i m.
       let e : 32 * k + j + i ≡ 32 * k + (j + i) = omega arith in
-      ap (bitAt (bytesOf words)) e ∙ sent-bit k (j + i) (omega arith) l)
+      ap (bitAt (recordingOf words)) e ∙ sent-bit k (j + i) (omega arith) l)
 
   -- word k stands whole at its place
-  word-whole : (k : ℕ) → k < length words → getD words k 0 < 2 ^ 32 → wordAt (bytesOf words) (32 * k) ≡ getD words k 0
+  word-whole : (k : ℕ) → k < length words → getD words k 0 < 2 ^ 32 → wordFrom (recordingOf words) (32 * k) ≡ getD words k 0
   word-whole k l small =
       let at : 32 * k ≡ 32 * k + 0 = omega arith in
-      ap (wordAt (bytesOf words)) at ∙ bits-inside k 0 32 (omega arith) l ∙ whole-word (getD words k 0) small
+      ap (wordFrom (recordingOf words)) at ∙ bits-inside k 0 32 (omega arith) l ∙ whole-word (getD words k 0) small
 
   -- 32 bits that start in word k reach into the next
   word-window : (k j : ℕ) → j < 32 → k + 1 < length words
-      → wordAt (bytesOf words) (32 * k + j) ≡ window (getD words k 0) (getD words (k + 1) 0) j
+      → wordFrom (recordingOf words) (32 * k + j) ≡ window (getD words k 0) (getD words (k + 1) 0) j
   word-window k j h l =
-      let bit = bitAt (bytesOf words) in
+      let bit = bitAt (recordingOf words) in
       let parts : 32 ≡ 32 - j + j = omega arith in
       let next : 32 * k + j + (32 - j) ≡ 32 * (k + 1) + 0 = omega arith in
       ap (λ (n : ℕ). bitsFrom bit (32 * k + j) n 0) parts
@@ -152,27 +149,27 @@ module _ (xs : List Sending) (a : AllAllowed xs) where
 
   module _ (p : ℕ) (l : p < 576) where
     -- the 32 bits at position p
-    at : wordAt (bytesOf sent) p ≡ window (getD sent (p / 32) 0) (getD sent (p / 32 + 1) 0) (p % 32)
+    at : wordFrom (recordingOf sent) p ≡ window (getD sent (p / 32) 0) (getD sent (p / 32 + 1) 0) (p % 32)
     at =
         let e : p ≡ 32 * (p / 32) + p % 32 = omega arith in
-        ap (wordAt (bytesOf sent)) e ∙ word-window sent (p / 32) (p % 32) (omega arith) (omega (arith, size, some))
+        ap (wordFrom (recordingOf sent)) e ∙ word-window sent (p / 32) (p % 32) (omega arith) (omega (arith, size, some))
 
     -- inside the preamble
-    inside : p / 32 + 1 ≤ 17 → 2 < distance (wordAt (bytesOf sent) p) sync
+    inside : p / 32 + 1 ≤ 17 → 2 < distance (wordFrom (recordingOf sent) p) sync
     inside m = rw (at, opening (p / 32) (omega arith), opening (p / 32 + 1) (omega arith)) (far preamble inside-far (p % 32) (omega arith))
 
     -- from its last word into sync
-    last : 17 < p / 32 + 1 → 2 < distance (wordAt (bytesOf sent) p) sync
+    last : 17 < p / 32 + 1 → 2 < distance (wordFrom (recordingOf sent) p) sync
     last m =
         let e : p / 32 + 1 ≡ 18 = omega arith in
         rw (at, opening (p / 32) (omega arith), e, first) (far sync before-far (p % 32) (omega arith))
 
     -- anywhere before the first sync
-    clear : 2 < distance (wordAt (bytesOf sent) p) sync
+    clear : 2 < distance (wordFrom (recordingOf sent) p) sync
     clear = ⊎-elim inside last (le-or-lt (p / 32 + 1) 17)
 
   -- its bits are a recording of it
-  pub transmission-bits : Recorded (bytesOf sent) 576 (drop 18 sent)
+  transmission-bits : Recorded (recordingOf sent) 576 (drop 18 sent)
   transmission-bits =
       let few = sendings-limits a .most in
       let behind : length (drop 18 sent) ≡ 17 * b = omega (arith, length-drop 18 sent, size) in
@@ -184,8 +181,8 @@ module _ (xs : List Sending) (a : AllAllowed xs) where
         flips =
             λ k l.
             let place : 576 + 32 * k ≡ 32 * (18 + k) = omega arith in
-            let word : wordAt (bytesOf sent) (576 + 32 * k) ≡ getD (drop 18 sent) k 0 =
-            ap (wordAt (bytesOf sent)) place
+            let word : wordFrom (recordingOf sent) (576 + 32 * k) ≡ getD (drop 18 sent) k 0 =
+            ap (wordFrom (recordingOf sent)) place
             ∙ word-whole sent (18 + k) (omega (arith, behind, size)) (transmission-fits xs (18 + k))
             ∙ sym (getD-drop 18 sent k 0) in
             rw word (omega (arith, distance-self (getD (drop 18 sent) k 0)));

@@ -1,6 +1,6 @@
 -- R-10, the radio's bits read directly: where a transmission follows whole in a recording, the lines and the counts are those of its
--- listing. `from-bits` in proofs/FromBits.antt, `job-from-bits` and `sent-then-received` in proofs/JobFromBits.antt and `sent-bits` in
--- proofs/SentBits.antt prove it.
+-- listing. `from-bits` in proofs/FromBits.antt, `job-from-bits`, `sent-then-received` and `program-receives` in proofs/JobFromBits.antt and
+-- `sent-bits` in proofs/SentBits.antt prove it.
 use mathlib.Core.Path.{_≡_}
 use mathlib.Core.Bool.{true}
 use mathlib.Core.List.{List, [], _++_}
@@ -23,7 +23,7 @@ use Rattle.reader.specs.Answers.{judgeListing, readListing, linesRead}
 use Rattle.reader.specs.declared.Changes.{Changes}
 use Rattle.reader.specs.declared.Reading.the-variants as reading
 use Rattle.reader.specs.declared.Verdict.the-variants.{Sound}
-use Rattle.receiver.specs.Bits.{bitCount, wordAt}
+use Rattle.receiver.specs.Bits.{bitCount, wordFrom}
 use Rattle.receiver.specs.Answers.{receiveBits, linesReceived}
 use Rattle.receiver.specs.declared.Receiving.the-variants.{Received, Declined}
 use Rattle.receiver.specs.declared.Refusal.the-variants.{NoRoom}
@@ -39,14 +39,14 @@ use Rattle.guarantees.specs.Programs.{ProgramCall, output}
 -- them.
 pub record Recorded (bits : List ℕ) (t : ℕ) (sent : List ℕ) : Type 0 where
   pub short : length bits ≤ 65536
-  pub clear : (p : ℕ) → p < t → 2 < distance (wordAt bits p) sync
+  pub clear : (p : ℕ) → p < t → 2 < distance (wordFrom bits p) sync
   pub whole : t + 32 * length sent ≤ bitCount bits
   pub ends : bitCount bits ≤ t + 32 * length sent + 7
-  pub flips : (k : ℕ) → k < length sent → distance (wordAt bits (t + 32 * k)) (getD sent k 0) ≤ 2
+  pub flips : (k : ℕ) → k < length sent → distance (wordFrom bits (t + 32 * k)) (getD sent k 0) ≤ 2
 
 -- the n words that stand in it from position t on
 abbrev pub wordsFrom : List ℕ → ℕ → ℕ → List ℕ
-wordsFrom bits t n = tab (λ k. wordAt bits (t + 32 * k)) n
+wordsFrom bits t n = tab (λ k. wordFrom bits (t + 32 * k)) n
 
 -- ---- any transmission beside its listing
 
@@ -113,15 +113,15 @@ SentThenReceived =
 
 -- ---- the transmission as it was sent
 
--- words as bytes, four a word, the top one first
-unfoldable pub bytesOf : List ℕ → List ℕ
-bytesOf words = tab (λ i. getD words (i / 4) 0 / 2 ^ (24 - 8 * (i % 4)) % 256) (4 * length words)
+-- words as a recording: four bytes a word, the top one first
+unfoldable pub recordingOf : List ℕ → List ℕ
+recordingOf words = tab (λ i. getD words (i / 4) 0 / 2 ^ (24 - 8 * (i % 4)) % 256) (4 * length words)
 
 -- the bits that the card sends, clean preamble first, are such a recording: no 32 bits that start in the preamble lie within two bits of sync
 abbrev pub SentBits : Type 0
 SentBits =
     (s : Submission) (n : ℕ) → jobOf s ≡ Accepted n
-    → Recorded (bytesOf (transmissionOf (sendingsOf s))) 576 (drop 18 (transmissionOf (sendingsOf s)))
+    → Recorded (recordingOf (transmissionOf (sendingsOf s))) 576 (drop 18 (transmissionOf (sendingsOf s)))
 
 -- ---- the receiving program
 

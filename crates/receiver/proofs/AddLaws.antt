@@ -8,8 +8,8 @@ use Rattle.base.proofs.ListLaws.{tab-length}
 use Rattle.reader.specs.Reading.{Heard}
 use Rattle.reader.specs.Lines.{linesHeard}
 use Rattle.reader.proofs.Laws.{all-within, lines-append}
-use Rattle.receiver.specs.Bits.{wordAt}
-use Rattle.receiver.specs.Stretches.{Stretch, wordsIn}
+use Rattle.receiver.specs.Bits.{wordFrom}
+use Rattle.receiver.specs.Stretches.{Stretch, wordsOn}
 use Rattle.receiver.specs.Answers.{isCut, heardOn, nothing, thenHeard, totalsOf}
 use Rattle.receiver.specs.Progress.{Most, added}
 use Rattle.receiver.specs.declared.Totals.{Totals}
@@ -62,8 +62,8 @@ most-added a b = record {
 -- of one stretch: a page that its end cuts short takes one byte more, and there is at least one batch
 pub most-heard : (s : List ℕ) (r : Stretch) → 1 ≤ r .batches → Most (totalsOf (r .batches) (heardOn s r))
 most-heard s r some =
-    let w = all-within (isCut s r) (wordsIn s r) in
-    let size : length (wordsIn s r) / 17 ≡ r .batches = omega (arith, tab-length (λ k. wordAt s (r .start + 32 * k)) (17 * r .batches)) in
+    let w = all-within (isCut s r) (wordsOn s r) in
+    let size : length (wordsOn s r) / 17 ≡ r .batches = omega (arith, tab-length (λ k. wordFrom s (r .start + 32 * k)) (17 * r .batches)) in
     record {
       pages = omega (arith, w .pages);
       lost = omega (arith, w .lost);

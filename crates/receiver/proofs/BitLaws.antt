@@ -7,8 +7,8 @@ use native.Mathlib.Omega.{arith}
 use lib.ListN.{getD}
 use lib.Pow.{pow-add, high, low, shl-lt}
 use Rattle.text.specs.Coding.{bitsFrom}
-use Rattle.text.proofs.BitLaws.{low-same, low-bits, bits-back, bits-add, bits-small}
-use Rattle.receiver.specs.Bits.{bitAt, wordAt}
+use Rattle.text.proofs.BitLaws.{bits-of, bits-add, bits-small}
+use Rattle.receiver.specs.Bits.{bitAt, wordFrom}
 
 -- the number that n bits from position p on write
 abbrev bitsAt : List ℕ → ℕ → ℕ → ℕ
@@ -28,14 +28,14 @@ module _ (s : List ℕ) where
   both = bits-add (bitAt s)
 
   -- a word fits 32 bits
-  pub word-small : (p : ℕ) → wordAt s p < 2 ^ 32
+  pub word-small : (p : ℕ) → wordFrom s p < 2 ^ 32
   word-small p = under p 32
 
   -- one position on: the first bit goes, and the next comes
-  pub word-next : (p : ℕ) → wordAt s p % 0x8000_0000 * 2 + bitAt s (p + 32) ≡ wordAt s (p + 1)
+  pub word-next : (p : ℕ) → wordFrom s p % 0x8000_0000 * 2 + bitAt s (p + 32) ≡ wordFrom s (p + 1)
   unfolding bitsFrom
   word-next p =
-      let rest : wordAt s p % 2 ^ 31 ≡ bitsAt s (p + 1) 31 = ap (λ (w : ℕ). w % 2 ^ 31) (both p 1 31) ∙ low (bitsAt s p 1) 31 (under (p + 1) 31) in
+      let rest : wordFrom s p % 2 ^ 31 ≡ bitsAt s (p + 1) 31 = ap (λ (w : ℕ). w % 2 ^ 31) (both p 1 31) ∙ low (bitsAt s p 1) 31 (under (p + 1) 31) in
       let last : bitAt s (p + 32) ≡ bitAt s (p + 1 + 31) = ap (bitAt s) (omega arith) in
       ap₂ (λ (w b : ℕ). w * 2 + b) rest last ∙ sym (both (p + 1) 31 1 ∙ omega arith)
 
@@ -48,11 +48,11 @@ module _ (s : List ℕ) where
       let at : (p + (8 - (k + 1))) / 8 ≡ i = omega arith in
       let up : 7 - (p + (8 - (k + 1))) % 8 ≡ k = omega arith in
       rw (at, up, h .1) in
-      bits-back (bitAt s) p 8 ∙ low-same (λ k. bitAt s (p + (8 - (k + 1)))) (λ k. b / 2 ^ k % 2) 8 same ∙ low-bits b 8 ∙ omega arith
+      bits-of (bitAt s) p 8 b same ∙ omega arith
 
   -- four bytes are a word
   pub four-bits : (i : ℕ) {a b c d : ℕ} → (a < 256) × (a ≡ getD s i 0) → (b < 256) × (b ≡ getD s (i + 1) 0) → (c < 256) × (c ≡ getD s (i + 2) 0)
-      → (d < 256) × (d ≡ getD s (i + 3) 0) → ((a * 256 + b) * 256 + c) * 256 + d ≡ wordAt s (8 * i)
+      → (d < 256) × (d ≡ getD s (i + 3) 0) → ((a * 256 + b) * 256 + c) * 256 + d ≡ wordFrom s (8 * i)
   four-bits i a b c d =
       let p = 8 * i in
       omega (
@@ -67,8 +67,8 @@ module _ (s : List ℕ) where
       )
 
   -- a word that begins inside a byte: the first four bytes moved up, and the top of the fifth behind them
-  pub five-bits : (p : ℕ) {front fifth : ℕ} → front ≡ wordAt s (8 * (p / 8)) → (fifth < 256) × (fifth ≡ getD s (p / 8 + 4) 0)
-      → front * 2 ^ (p % 8) % 2 ^ 32 + fifth / 2 ^ (8 - p % 8) ≡ wordAt s p
+  pub five-bits : (p : ℕ) {front fifth : ℕ} → front ≡ wordFrom s (8 * (p / 8)) → (fifth < 256) × (fifth ≡ getD s (p / 8 + 4) 0)
+      → front * 2 ^ (p % 8) % 2 ^ 32 + fifth / 2 ^ (8 - p % 8) ≡ wordFrom s p
   five-bits p {front} {fifth} e h =
       let i = p / 8 in
       let up = p % 8 in
@@ -94,5 +94,5 @@ module _ (s : List ℕ) where
       ap₂ _+_ moved top ∙ sym (ap (bitsAt s p) (sym word) ∙ both p n up ∙ ap (λ (q : ℕ). kept * 2 ^ up + bitsAt s q up) behind)
 
   -- one that begins with a byte
-  pub whole-bits : (p : ℕ) {front : ℕ} → front ≡ wordAt s (8 * (p / 8)) → p % 8 ≡ 0 → front ≡ wordAt s p
-  whole-bits p e h = let at : 8 * (p / 8) ≡ p = omega arith in e ∙ ap (wordAt s) at
+  pub whole-bits : (p : ℕ) {front : ℕ} → front ≡ wordFrom s (8 * (p / 8)) → p % 8 ≡ 0 → front ≡ wordFrom s p
+  whole-bits p e h = let at : 8 * (p / 8) ≡ p = omega arith in e ∙ ap (wordFrom s) at

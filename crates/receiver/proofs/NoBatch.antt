@@ -6,7 +6,7 @@ use Prim.Native.Nat.{ℕ, _≤_, zero-le}
 use lib.ListN.{length}
 use borrow.Author.Tests.{le-ltb}
 use Rattle.reader.specs.Lines.{linesHeard}
-use Rattle.receiver.specs.Stretches.{isBatch, huntFrom, stretchesOf, batchesIn}
+use Rattle.receiver.specs.Stretches.{isBatch, huntFrom, stretchesOf, batchesFound}
 use Rattle.receiver.specs.Answers.{nothing, heardAll, heardBits, totalsOf, receiveBits, linesReceived}
 use Rattle.receiver.specs.NoBatch.{NoBatch}
 use Rattle.receiver.specs.declared.Receiving.{Receiving}
@@ -22,9 +22,9 @@ module _ (s : List ℕ) (short : length s ≤ 65536) (none : (p : ℕ) → isBat
   unfolding heardAll
   nothing-heard = ap (heardAll s) no-stretch
 
-  no-batches : batchesIn (stretchesOf s) ≡ 0
-  unfolding batchesIn
-  no-batches = ap batchesIn no-stretch
+  no-batches : batchesFound (stretchesOf s) ≡ 0
+  unfolding batchesFound
+  no-batches = ap batchesFound no-stretch
 
   module _ (room : ℕ) where
     answered : receiveBits s room ≡ Received (totalsOf 0 nothing)

@@ -10,7 +10,7 @@ use borrow.Author.Tests.{lt-ltb, le-ltb, ltb-true, ltb-false}
 use Rattle.base.proofs.Bools.{true-false}
 use Rattle.reader.specs.Lines.{linesHeard}
 use Rattle.reader.proofs.Laws.{lines-append}
-use Rattle.receiver.specs.Stretches.{Stretch, isBatch, huntFrom, stretchAt, endOf, stretchesIn, stretchesOf, batchesIn}
+use Rattle.receiver.specs.Stretches.{Stretch, isBatch, huntFrom, stretchAt, stretchEnd, stretchesIn, stretchesOf, batchesFound}
 use Rattle.receiver.specs.Answers.{heardOn, heardAll, heardBits, totalsOf, receiveBits, totalsReceived, numberOf}
 use Rattle.receiver.specs.Enough.{Enough}
 use Rattle.receiver.specs.declared.Receiving.{Receiving}
@@ -26,30 +26,32 @@ module _ (s : List ℕ) where
   abbrev bytes : List Stretch → ℕ
   bytes rs = length (linesHeard (heardAll s rs .pages))
 
-  one-more : (r : Stretch) (rs : List Stretch) → 1 ≤ r .batches → bytes rs ≤ 161 * batchesIn rs → bytes (r ∷ rs) ≤ 161 * batchesIn (r ∷ rs)
-  unfolding heardAll batchesIn
+  -- ten bytes a slot, and one more a stretch: of one stretch more
+  one-more : (r : Stretch) (rs : List Stretch) → 1 ≤ r .batches → bytes rs ≤ 161 * batchesFound rs → bytes (r ∷ rs) ≤ 161 * batchesFound (r ∷ rs)
+  unfolding heardAll batchesFound
   one-more r rs some h =
       let a = heardOn s r .pages in
       let b = heardAll s rs .pages in
       omega (arith, most-heard s r some .bytes, ap length (lines-append a b), length-append (linesHeard a) (linesHeard b))
 
-  lines-most : (n p : ℕ) → bytes (stretchesIn s n p) ≤ 161 * batchesIn (stretchesIn s n p)
+  -- of all that so many hunts find
+  lines-most : (n p : ℕ) → bytes (stretchesIn s n p) ≤ 161 * batchesFound (stretchesIn s n p)
   unfolding stretchesIn heardAll linesHeard
   lines-most zero p = omega arith
   lines-most (suc n) p =
       let r = stretchAt s (huntFrom s p) in
-      go (isBatch s (r .start)) refl (lines-most n (endOf r))
+      go (isBatch s (r .start)) refl (lines-most n (stretchEnd r))
     where
       go : (b : Bool) → isBatch s (huntFrom s p) ≡ b
-          → bytes (stretchesIn s n (endOf (stretchAt s (huntFrom s p)))) ≤ 161 * batchesIn (stretchesIn s n (endOf (stretchAt s (huntFrom s p))))
-          → bytes (cond b (stretchAt s (huntFrom s p) ∷ stretchesIn s n (endOf (stretchAt s (huntFrom s p)))) []) ≤ 161 * batchesIn (cond b (stretchAt s (huntFrom s p) ∷ stretchesIn s n (endOf (stretchAt s (huntFrom s p)))) [])
-      go true e h = one-more (stretchAt s (huntFrom s p)) (stretchesIn s n (endOf (stretchAt s (huntFrom s p)))) (batches-some s (huntFrom s p) e) h
+          → bytes (stretchesIn s n (stretchEnd (stretchAt s (huntFrom s p)))) ≤ 161 * batchesFound (stretchesIn s n (stretchEnd (stretchAt s (huntFrom s p))))
+          → bytes (cond b (stretchAt s (huntFrom s p) ∷ stretchesIn s n (stretchEnd (stretchAt s (huntFrom s p)))) []) ≤ 161 * batchesFound (cond b (stretchAt s (huntFrom s p) ∷ stretchesIn s n (stretchEnd (stretchAt s (huntFrom s p)))) [])
+      go true e h = one-more (stretchAt s (huntFrom s p)) (stretchesIn s n (stretchEnd (stretchAt s (huntFrom s p)))) (batches-some s (huntFrom s p) e) h
       go false e h = omega arith
 
   -- ---- number 10
 
   abbrev n : ℕ
-  n = batchesIn (stretchesOf s)
+  n = batchesFound (stretchesOf s)
 
   abbrev size : ℕ
   size = length (linesHeard (heardBits s .pages))
@@ -61,6 +63,7 @@ module _ (s : List ℕ) where
   abbrev answer : Bool → Bool → Bool → Receiving
   answer long many full = cond long (Declined TooLong) (cond many (Declined TooMany) (cond full (Declined NoRoom) (Received (totalsOf n (heardBits s)))))
 
+  -- none of them is number 10
   not-full : (room : ℕ) → 48300 ≤ room → (long many full : Bool) → ltb 300 n ≡ many → ltb room size ≡ full → numberOf (answer long many full) ≡ 10 → ⊥
   not-full room h true many full m f e = omega arith
   not-full room h false true full m f e = omega arith
@@ -75,15 +78,16 @@ enough s room h = not-full s room h (ltb 65536 (length s)) (ltb 300 (n s)) (ltb 
 -- ---- the answer into room for so many bytes, where it is known into 48,300 and more
 
 module _ (s : List ℕ) where
+  -- number 28, whatever the room
   pub too-long : (room : ℕ) → 65536 < length s → Declined TooLong ≡ receiveBits s room
   unfolding receiveBits
   too-long room h = rw (lt-ltb 65536 (length s) h)
 
   -- what is known where it is received
-  pub record Known (t : Totals) : Type 0 where
-    pub report : t ≡ totalsOf (n s) (heardBits s)
-    pub short : length s ≤ 65536
-    pub few : n s ≤ 300
+  record Known (t : Totals) : Type 0 where
+    report : t ≡ totalsOf (n s) (heardBits s)
+    short : length s ≤ 65536
+    few : n s ≤ 300
 
   received-by : {t : Totals} (long many full : Bool) → ltb 65536 (length s) ≡ long → ltb 300 (n s) ≡ many → Received t ≡ answer s long many full → Known t
   received-by true many full l m e = let z : _≡_ {A = ℕ} 0 1 = cc in absurd (omega arith)
@@ -91,7 +95,7 @@ module _ (s : List ℕ) where
   received-by false false true l m e = let z : _≡_ {A = ℕ} 0 1 = cc in absurd (omega arith)
   received-by false false false l m e = record { report = ap totalsReceived e; short = ltb-false 65536 (length s) l; few = ltb-false 300 (n s) m }
 
-  pub received : (room : ℕ) {t : Totals} → Received t ≡ receiveBits s room → Known t
+  received : (room : ℕ) {t : Totals} → Received t ≡ receiveBits s room → Known t
   unfolding receiveBits
   received room e = received-by (ltb 65536 (length s)) (ltb 300 (n s)) (ltb room (size s)) refl refl e
 
@@ -113,7 +117,7 @@ module _ (s : List ℕ) where
         let k = received wide e in
         rw (le-ltb 65536 (length s) (k .short), le-ltb 300 (n s) (k .few), lt-ltb room (size s) (omega (arith, bytes-received wide e)))
 
-  -- what 48,300 bytes don't suffice for has too many batches
+  -- what is declined into 48,300 bytes, and is not too long, has too many batches
   many-by : {why : Refusal} (many full : Bool) → (numberOf (answer s false many full) ≡ 10 → ⊥) → Declined why ≡ answer s false many full → ltb 300 (n s) ≡ many → 300 < n s
   many-by true full h e m = ltb-true 300 (n s) m
   many-by false true h e m = absurd (h refl)

@@ -12,7 +12,7 @@ use Rattle.reader.specs.Reading.{Heard}
 use Rattle.reader.specs.Lines.{linesHeard}
 use Rattle.reader.proofs.Laws.{lines-append}
 use Rattle.receiver.specs.Bits.{bitCount}
-use Rattle.receiver.specs.Stretches.{Stretch, huntFrom, batchesFrom, stretchAt, endOf, stretchesOf, batchesIn}
+use Rattle.receiver.specs.Stretches.{Stretch, huntFrom, batchesFrom, stretchAt, stretchEnd, stretchesOf, batchesFound}
 use Rattle.receiver.specs.Answers.{heardOn, nothing, thenHeard, heardAll, heardBits, totalsOf, receiveBits}
 use Rattle.receiver.specs.Progress.{stretchesFrom, Ahead, Most, Addable, added}
 use Rattle.receiver.specs.declared.Receiving.the-variants.{Received, Declined}
@@ -29,7 +29,7 @@ pub record SoFar (s old : List ℕ) (p : ℕ) (t : Totals) (lines : List ℕ) : 
   pub few : t .batches ≤ 300
   pub inside : p ≤ bitCount s
   pub all : thenHeard heard (heardAll s (stretchesFrom s p)) ≡ heardBits s
-  pub count : t .batches + batchesIn (stretchesFrom s p) ≡ batchesIn (stretchesOf s)
+  pub count : t .batches + batchesFound (stretchesFrom s p) ≡ batchesFound (stretchesOf s)
   pub is : lines ≡ over old (linesHeard (heard .pages))
 
 module _ (s old : List ℕ) where
@@ -42,7 +42,7 @@ module _ (s old : List ℕ) where
     few = omega arith;
     inside = omega arith;
     all = nothing-then (heardAll s (stretchesFrom s 0)) ∙ ap (heardAll s) (sym (stretches-all s));
-    count = omega (arith, ap batchesIn (stretches-all s));
+    count = omega (arith, ap batchesFound (stretches-all s));
     is = refl;
   }
 
@@ -75,17 +75,17 @@ module _ (s old : List ℕ) where
       unfolding heardAll
       all-heard = sym (then-nothing (x .heard)) ∙ ap (λ (rs : List Stretch). thenHeard (x .heard) (heardAll s rs)) (sym none-left) ∙ x .all
 
-      all-counted : t .batches ≡ batchesIn (stretchesOf s)
-      unfolding batchesIn
-      all-counted = omega (arith, ap batchesIn none-left, x .count)
+      all-counted : t .batches ≡ batchesFound (stretchesOf s)
+      unfolding batchesFound
+      all-counted = omega (arith, ap batchesFound none-left, x .count)
 
       pub so-far-end : (room : ℕ) → length s ≤ 65536 → 48300 ≤ room → Received t ≡ receiveBits s room
       unfolding receiveBits
       so-far-end room short wide =
           let fits : length (linesHeard (heardBits s .pages)) ≤ room = omega (arith, ap (λ (h : Heard). length (linesHeard (h .pages))) all-heard, size, x .most .bytes, x .few) in
-          let report : t ≡ totalsOf (batchesIn (stretchesOf s)) (heardBits s) = x .report ∙ ap₂ totalsOf all-counted all-heard in
+          let report : t ≡ totalsOf (batchesFound (stretchesOf s)) (heardBits s) = x .report ∙ ap₂ totalsOf all-counted all-heard in
           ap Received report
-          ∙ rw (le-ltb 65536 (length s) short, le-ltb 300 (batchesIn (stretchesOf s)) (omega (arith, all-counted, x .few)), le-ltb room (length (linesHeard (heardBits s .pages))) fits)
+          ∙ rw (le-ltb 65536 (length s) short, le-ltb 300 (batchesFound (stretchesOf s)) (omega (arith, all-counted, x .few)), le-ltb room (length (linesHeard (heardBits s .pages))) fits)
 
       pub so-far-lines : take (t .bytes) lines ≡ linesHeard (heardBits s .pages)
       so-far-lines =
@@ -97,17 +97,17 @@ module _ (s old : List ℕ) where
       abbrev h : Heard
       h = heardOn s r
 
-      next-found : stretchesFrom s p ≡ r ∷ stretchesFrom s (endOf r)
-      next-found = subst (λ (z : ℕ). stretchesFrom s p ≡ stretchAt s z ∷ stretchesFrom s (endOf (stretchAt s z))) (sym eq) (stretches-next s p (omega (arith, same)))
+      next-found : stretchesFrom s p ≡ r ∷ stretchesFrom s (stretchEnd r)
+      next-found = subst (λ (z : ℕ). stretchesFrom s p ≡ stretchAt s z ∷ stretchesFrom s (stretchEnd (stretchAt s z))) (sym eq) (stretches-next s p (omega (arith, same)))
 
-      counted : t .batches + (batchesFrom s q + batchesIn (stretchesFrom s (endOf r))) ≡ batchesIn (stretchesOf s)
-      unfolding batchesIn
-      counted = ap (λ (rs : List Stretch). t .batches + batchesIn rs) (sym next-found) ∙ x .count
+      counted : t .batches + (batchesFrom s q + batchesFound (stretchesFrom s (stretchEnd r))) ≡ batchesFound (stretchesOf s)
+      unfolding batchesFound
+      counted = ap (λ (rs : List Stretch). t .batches + batchesFound rs) (sym next-found) ∙ x .count
 
       -- a 301st batch is in it
       pub so-far-many : (room : ℕ) → length s ≤ 65536 → 300 < t .batches + b → Declined TooMany ≡ receiveBits s room
       unfolding receiveBits
-      so-far-many room short many = rw (le-ltb 65536 (length s) short, lt-ltb 300 (batchesIn (stretchesOf s)) (omega (arith, counted)))
+      so-far-many room short many = rw (le-ltb 65536 (length s) short, lt-ltb 300 (batchesFound (stretchesOf s)) (omega (arith, counted)))
 
       module _ (few : t .batches + b ≤ 300) (wide : 48300 ≤ length old) where
         so-far-length : length lines ≡ length old
@@ -141,7 +141,7 @@ module _ (s old : List ℕ) where
           unfolding heardAll
           so-far-next {u} eu w =
               let sum : u ≡ added t (totalsOf b h) = eu ∙ ap (added t) em in
-              let end : endOf r ≡ q + 544 * b = omega arith in
+              let end : stretchEnd r ≡ q + 544 * b = omega arith in
               rw sum
               (record {
                 heard = thenHeard (x .heard) h;
@@ -153,7 +153,7 @@ module _ (s old : List ℕ) where
                     then-assoc (x .heard) h (heardAll s (stretchesFrom s (q + 544 * b)))
                     ∙ ap (λ (e : ℕ). thenHeard (x .heard) (thenHeard h (heardAll s (stretchesFrom s e)))) (sym end)
                     ∙ ap (λ (rs : List Stretch). thenHeard (x .heard) (heardAll s rs)) (sym next-found) ∙ x .all;
-                count = omega (arith, counted, ap (λ (e : ℕ). batchesIn (stretchesFrom s e)) end);
+                count = omega (arith, counted, ap (λ (e : ℕ). batchesFound (stretchesFrom s e)) end);
                 is =
                     over-behind old (linesHeard (x .heard .pages)) (linesHeard (h .pages)) (t .bytes) (x .is) (sym size) so-far-inside w
                     ∙ ap (over old) (sym (lines-append (x .heard .pages) (h .pages)));

@@ -13,20 +13,20 @@ use Rattle.base.proofs.Bools.{either, true-false, and-true, and-both, and-false
 use Rattle.base.proofs.SearchLaws.{Least, least-is, least-only, le-or-lt}
 use Rattle.codeword.specs.Nearest.{nearest}
 use Rattle.reader.specs.Meaning.{isSync}
-use Rattle.receiver.specs.Bits.{bitCount, wordAt}
-use Rattle.receiver.specs.Stretches.{isBatch, huntFrom, batchesFrom, Stretch, stretchAt, endOf, stretchesIn, stretchesOf}
+use Rattle.receiver.specs.Bits.{bitCount, wordFrom}
+use Rattle.receiver.specs.Stretches.{isBatch, huntFrom, batchesFrom, Stretch, stretchAt, stretchEnd, stretchesIn, stretchesOf}
 use Rattle.receiver.specs.Progress.{stretchesFrom}
 
 module _ (s : List ℕ) where
   -- ---- where there is a batch
 
   -- 32 bits that correct to sync, with 512 bits behind them, begin a batch
-  pub batch-is : (p : ℕ) → p + 544 ≤ bitCount s → isSync (nearest (wordAt s p)) ≡ true → isBatch s p ≡ true
+  pub batch-is : (p : ℕ) → p + 544 ≤ bitCount s → isSync (nearest (wordFrom s p)) ≡ true → isBatch s p ≡ true
   unfolding isBatch
   batch-is p l e = and-both (le-leb (p + 544) (bitCount s) l) e
 
   -- 32 bits that don't correct to sync begin none
-  pub batch-not : (p : ℕ) → isSync (nearest (wordAt s p)) ≡ false → isBatch s p ≡ false
+  pub batch-not : (p : ℕ) → isSync (nearest (wordFrom s p)) ≡ false → isBatch s p ≡ false
   unfolding isBatch
   batch-not p e = rw e (and-false (leb (p + 544) (bitCount s)))
 
@@ -35,20 +35,20 @@ module _ (s : List ℕ) where
   unfolding isBatch
   batch-late p l = rw (lt-leb (p + 544) (bitCount s) l)
 
-  both : (p : ℕ) → isBatch s p ≡ true → (leb (p + 544) (bitCount s) ≡ true) × (isSync (nearest (wordAt s p)) ≡ true)
+  both : (p : ℕ) → isBatch s p ≡ true → (leb (p + 544) (bitCount s) ≡ true) × (isSync (nearest (wordFrom s p)) ≡ true)
   unfolding isBatch
-  both p e = and-true (leb (p + 544) (bitCount s)) (isSync (nearest (wordAt s p))) e
+  both p e = and-true (leb (p + 544) (bitCount s)) (isSync (nearest (wordFrom s p))) e
 
   -- a batch has its 544 bits
-  pub batch-fits : (p : ℕ) → isBatch s p ≡ true → p + 544 ≤ bitCount s
+  batch-fits : (p : ℕ) → isBatch s p ≡ true → p + 544 ≤ bitCount s
   batch-fits p e = leb-true (p + 544) (bitCount s) (both p e .0)
 
   -- a batch begins with sync
-  pub batch-synced : (p : ℕ) → isBatch s p ≡ true → isSync (nearest (wordAt s p)) ≡ true
+  pub batch-synced : (p : ℕ) → isBatch s p ≡ true → isSync (nearest (wordFrom s p)) ≡ true
   batch-synced p e = both p e .1
 
   -- what the sync test of the word at position p answered
-  pub tested : (p : ℕ) {w : ℕ} {r b : Bool} → w ≡ wordAt s p → r ≡ isSync (nearest w) → r ≡ b → isSync (nearest (wordAt s p)) ≡ b
+  pub tested : (p : ℕ) {w : ℕ} {r b : Bool} → w ≡ wordFrom s p → r ≡ isSync (nearest w) → r ≡ b → isSync (nearest (wordFrom s p)) ≡ b
   tested p e f g = ap (λ (x : ℕ). isSync (nearest x)) (sym e) ∙ sym f ∙ g
 
   -- ---- the hunt
@@ -69,16 +69,6 @@ module _ (s : List ℕ) where
   pub hunt-inside : (p : ℕ) → p ≤ bitCount s → huntFrom s p ≤ bitCount s
   unfolding huntFrom
   hunt-inside p l = omega (arith, far-is p .within)
-
-  -- the hunt passes no batch
-  pub hunt-passed : (p q : ℕ) → p ≤ q → q < huntFrom s p → isBatch s q ≡ false
-  unfolding huntFrom
-  hunt-passed p q h l = let e : p + (q - p) ≡ q = omega arith in rw e at (far-is p .before (q - p) (omega arith))
-
-  -- where the hunt stops before the end there is a batch
-  pub hunt-found : (p : ℕ) → huntFrom s p < bitCount s → isBatch s (huntFrom s p) ≡ true
-  unfolding huntFrom
-  hunt-found p l = far-is p .here (omega arith)
 
   stops : (p t : ℕ) → p ≤ t → t ≤ bitCount s → ((q : ℕ) → p ≤ q → q < t → isBatch s q ≡ false) → (t < bitCount s → isBatch s t ≡ true)
       → huntFrom s p ≡ t
@@ -119,7 +109,7 @@ module _ (s : List ℕ) where
   batches-are q k l = not-false (isBatch s (q + 544 * k)) (count-is q .before k l)
 
   -- directly behind a stretch there is no batch
-  pub batches-end : (q : ℕ) → isBatch s (endOf (stretchAt s q)) ≡ false
+  pub batches-end : (q : ℕ) → isBatch s (stretchEnd (stretchAt s q)) ≡ false
   batches-end q =
       ⊎-elim (λ (l : bitCount s ≤ batchesFrom s q). batch-late (q + 544 * batchesFrom s q) (omega arith))
       (λ (l : batchesFrom s q < bitCount s). not-true (isBatch s (q + 544 * batchesFrom s q)) (count-is q .here l)) (le-or-lt (bitCount s) (batchesFrom s q))
@@ -135,7 +125,7 @@ module _ (s : List ℕ) where
       })
 
   -- a stretch ends in the recording
-  pub stretch-inside : (q : ℕ) → q ≤ bitCount s → endOf (stretchAt s q) ≤ bitCount s
+  pub stretch-inside : (q : ℕ) → q ≤ bitCount s → stretchEnd (stretchAt s q) ≤ bitCount s
   stretch-inside q h =
       let b = batchesFrom s q in
       ⊎-elim (λ (l : b ≤ 0). omega arith) (λ (l : 0 < b). omega (arith, batch-fits (q + 544 * (b - 1)) (batches-are q (b - 1) (omega arith)))) (le-or-lt b 0)
@@ -152,7 +142,7 @@ module _ (s : List ℕ) where
       batches-is q 0 (λ k l. absurd (omega arith)) (rw z e)
 
   -- where one is counted there is a batch
-  pub batches-first : (q : ℕ) → 1 ≤ batchesFrom s q → isBatch s q ≡ true
+  batches-first : (q : ℕ) → 1 ≤ batchesFrom s q → isBatch s q ≡ true
   batches-first q l = let z : q + 544 * 0 ≡ q = omega arith in rw z at (batches-are q 0 (omega arith))
 
   -- ---- the stretches
@@ -161,7 +151,7 @@ module _ (s : List ℕ) where
   abbrev next : ℕ → Stretch
   next p = stretchAt s (huntFrom s p)
 
-  some : (n p : ℕ) → isBatch s (huntFrom s p) ≡ true → stretchesIn s (suc n) p ≡ next p ∷ stretchesIn s n (endOf (next p))
+  some : (n p : ℕ) → isBatch s (huntFrom s p) ≡ true → stretchesIn s (suc n) p ≡ next p ∷ stretchesIn s n (stretchEnd (next p))
   unfolding stretchesIn
   some n p e = rw e
 
@@ -173,7 +163,7 @@ module _ (s : List ℕ) where
   late : (p : ℕ) → bitCount s ≤ p → isBatch s (huntFrom s p) ≡ false
   late p l = batch-late (huntFrom s p) (omega (arith, hunt-on p))
 
-  further : (p : ℕ) → isBatch s (huntFrom s p) ≡ true → p < endOf (next p)
+  further : (p : ℕ) → isBatch s (huntFrom s p) ≡ true → p < stretchEnd (next p)
   further p e = omega (arith, hunt-on p, batches-some (huntFrom s p) e)
 
   -- as many hunts as bits are left find all
@@ -185,24 +175,24 @@ module _ (s : List ℕ) where
       ⊎-elim
       (λ (e : isBatch s (huntFrom s p) ≡ true).
       let l = further p e in
-      some n p e ∙ ap (λ (rs : List Stretch). next p ∷ rs) (enough n m (endOf (next p)) (omega arith) (omega arith)) ∙ sym (some m p e))
+      some n p e ∙ ap (λ (rs : List Stretch). next p ∷ rs) (enough n m (stretchEnd (next p)) (omega arith) (omega arith)) ∙ sym (some m p e))
       (λ (e : isBatch s (huntFrom s p) ≡ false). none (suc n) p e ∙ sym (none (suc m) p e))
       (either (isBatch s (huntFrom s p)))
 
   -- where the hunt finds no batch there is no stretch
   pub stretches-none : (p : ℕ) → batchesFrom s (huntFrom s p) ≡ 0 → stretchesFrom s p ≡ []
-  stretches-none p e = let z : endOf (next p) ≡ huntFrom s p = omega arith in none (bitCount s - p) p (rw z at (batches-end (huntFrom s p)))
+  stretches-none p e = let z : stretchEnd (next p) ≡ huntFrom s p = omega arith in none (bitCount s - p) p (rw z at (batches-end (huntFrom s p)))
 
   -- where it finds one: the stretch there, and those that the hunt from its end finds
   pub stretches-next : (p : ℕ) → 1 ≤ batchesFrom s (huntFrom s p)
-      → stretchesFrom s p ≡ stretchAt s (huntFrom s p) ∷ stretchesFrom s (endOf (stretchAt s (huntFrom s p)))
+      → stretchesFrom s p ≡ stretchAt s (huntFrom s p) ∷ stretchesFrom s (stretchEnd (stretchAt s (huntFrom s p)))
   stretches-next p l =
       let e = batches-first (huntFrom s p) l in
       let n = bitCount s - (p + 1) in
       let left : bitCount s - p ≡ suc n = omega (arith, hunt-on p, batch-fits (huntFrom s p) e) in
       ap (λ (m : ℕ). stretchesIn s m p) left
       ∙ some n p e
-      ∙ ap (λ (rs : List Stretch). next p ∷ rs) (enough n (bitCount s - endOf (next p)) (endOf (next p)) (omega (arith, further p e)) (omega arith))
+      ∙ ap (λ (rs : List Stretch). next p ∷ rs) (enough n (bitCount s - stretchEnd (next p)) (stretchEnd (next p)) (omega (arith, further p e)) (omega arith))
 
   -- the stretches of the whole recording are those from position 0 on
   pub stretches-all : stretchesOf s ≡ stretchesFrom s 0

@@ -7,7 +7,7 @@ use lib.ListN.{length}
 use Rattle.reader.specs.Reading.{Heard, heardStretch}
 use Rattle.reader.specs.Lines.{linesHeard}
 use Rattle.receiver.specs.Bits.{bitCount}
-use Rattle.receiver.specs.Stretches.{Stretch, endOf, stretchesOf, batchesIn, wordsIn}
+use Rattle.receiver.specs.Stretches.{Stretch, stretchEnd, stretchesOf, batchesFound, wordsOn}
 use Rattle.receiver.specs.declared.Receiving.{Receiving}
 use Rattle.receiver.specs.declared.Receiving.the-variants.{Received, Declined}
 use Rattle.receiver.specs.declared.Refusal.the-variants.{TooLong, TooMany, NoRoom}
@@ -18,11 +18,11 @@ use Rattle.receiver.specs.declared.Totals.{Totals}
 -- 544 bits or more are left behind a stretch, so that the test of the next 32 has failed: it closes an open page as cut short. With fewer
 -- left the stream is at its end
 abbrev pub isCut : List ℕ → Stretch → Bool
-isCut s r = leb (endOf r + 544) (bitCount s)
+isCut s r = leb (stretchEnd r + 544) (bitCount s)
 
 -- what is heard of a stretch: its batches are read as document 01 has it
 abbrev pub heardOn : List ℕ → Stretch → Heard
-heardOn s r = heardStretch (isCut s r) (wordsIn s r)
+heardOn s r = heardStretch (isCut s r) (wordsOn s r)
 
 -- nothing
 abbrev pub nothing : Heard
@@ -67,8 +67,8 @@ reported n h room = cond (ltb room (length (linesHeard (h .pages)))) (Declined N
 unfoldable pub receiveBits : List ℕ → ℕ → Receiving
 receiveBits s room =
     cond (ltb 65536 (length s)) (Declined TooLong)
-    (cond (ltb 300 (batchesIn (stretchesOf s))) (Declined TooMany)
-    (reported (batchesIn (stretchesOf s)) (heardBits s) room))
+    (cond (ltb 300 (batchesFound (stretchesOf s))) (Declined TooMany)
+    (reported (batchesFound (stretchesOf s)) (heardBits s) room))
 
 -- what is written over the front of the bytes: the lines of all pages, or nothing where the recording is declined
 abbrev pub linesReceived : Receiving → List ℕ → List ℕ

@@ -13,5 +13,5 @@ unfoldable pub bitAt : List ℕ → ℕ → ℕ
 bitAt s p = getD s (p / 8) 0 / 2 ^ (7 - p % 8) % 2
 
 -- the 32 bits from position p on, the first on top
-abbrev pub wordAt : List ℕ → ℕ → ℕ
-wordAt s p = bitsFrom (bitAt s) p 32 0
+abbrev pub wordFrom : List ℕ → ℕ → ℕ
+wordFrom s p = bitsFrom (bitAt s) p 32 0

@@ -4,7 +4,7 @@ ghost use Prim.Native.Nat.{_+_, _*_, _≤_, _<_};
 ghost use lib.ListN.{length, getD, take};
 ghost use Rattle.base.specs.Lists.{over, tab};
 ghost use Rattle.reader.specs.Lines.{linesHeard};
-ghost use Rattle.receiver.specs.Bits.{bitCount, bitAt, wordAt};
+ghost use Rattle.receiver.specs.Bits.{bitCount, bitAt, wordFrom};
 ghost use Rattle.receiver.specs.Stretches.{huntFrom, batchesFrom, stretchAt};
 ghost use Rattle.receiver.specs.Answers.{heardOn, nothing, totalsOf, receiveBits, linesReceived, totalsReceived, numberOf};
 ghost use Rattle.receiver.specs.Progress.{Ahead, Addable, added};
@@ -60,7 +60,7 @@ fn byte(bits: &[u8], i: usize) -> u32
 // The four bytes from byte i on as one number, the first on top.
 fn four_bytes(bits: &[u8], i: usize) -> u32
     requires { ⌜ i + 4 ≤ length (now bits) ⌝ }
-    ensures { λ r. ⌜ r ≡ wordAt (now (bits .entry)) (8 * i) ⌝ }
+    ensures { λ r. ⌜ r ≡ wordFrom (now (bits .entry)) (8 * i) ⌝ }
 {
     let a = byte(bits, i);
     let b = byte(bits, i + 1);
@@ -70,9 +70,9 @@ fn four_bytes(bits: &[u8], i: usize) -> u32
 }
 
 // The 32 bits from a position on: of the five bytes that may hold them the first four, moved up, and the top of the fifth.
-fn word_at(bits: &[u8], p: usize) -> u32
+fn word_from(bits: &[u8], p: usize) -> u32
     requires { ⌜ p + 32 ≤ bitCount (now bits) ⌝ }
-    ensures { λ r. ⌜ r ≡ wordAt (now (bits .entry)) p ⌝ }
+    ensures { λ r. ⌜ r ≡ wordFrom (now (bits .entry)) p ⌝ }
 {
     let i = p / 8;
     let up = (p % 8) as u32;
@@ -92,7 +92,7 @@ fn hunt(bits: &[u8], p: usize) -> usize
     if n < p + 544 {
         return n;
     }
-    let mut w = word_at(bits, p);
+    let mut w = word_from(bits, p);
     let mut q = p;
     while q + 544 <= n {
         if reader::is_sync(w) {
@@ -113,7 +113,7 @@ fn count_batches(bits: &[u8], p: usize) -> usize
     let mut b = 0;
     let mut e = p;
     while e + 544 <= n {
-        if !reader::is_sync(word_at(bits, e)) {
+        if !reader::is_sync(word_from(bits, e)) {
             return b;
         }
         b += 1;
@@ -125,11 +125,11 @@ fn count_batches(bits: &[u8], p: usize) -> usize
 // Fills a slice with the words from position p on.
 fn fill_words(bits: &[u8], p: usize, words: &mut [u32])
     requires { ⌜ (length (now bits) ≤ 65536) × (p + 32 * length (now words) ≤ bitCount (now bits)) ⌝ }
-    ensures { λ _. ⌜ now (words .exit) ≡ tab (λ k. wordAt (now (bits .entry)) (p + 32 * k)) (length (now (words .entry))) ⌝ }
+    ensures { λ _. ⌜ now (words .exit) ≡ tab (λ k. wordFrom (now (bits .entry)) (p + 32 * k)) (length (now (words .entry))) ⌝ }
 {
     let mut k = 0;
     while k < words.len() {
-        words[k] = word_at(bits, p + 32 * k);
+        words[k] = word_from(bits, p + 32 * k);
         k += 1;
     }
 }

@@ -79,6 +79,10 @@ bits-low bit at (suc n) acc =
 pub bits-back : (bit : ℕ → ℕ) (at n : ℕ) → bitsFrom bit at n 0 ≡ fromLow (λ b. bit (at + (n - (b + 1)))) n
 bits-back bit at n = bits-low bit at n 0 ∙ omega arith
 
+-- those of a number, the first the most significant, are its n low bits
+pub bits-of : (bit : ℕ → ℕ) (at n v : ℕ) → ((b : ℕ) → b < n → bit (at + (n - (b + 1))) ≡ v / 2 ^ b % 2) → bitsFrom bit at n 0 ≡ v % 2 ^ n
+bits-of bit at n v same = bits-back bit at n ∙ low-same (λ b. bit (at + (n - (b + 1)))) (λ b. v / 2 ^ b % 2) n same ∙ low-bits v n
+
 -- what stands before them
 pub bits-behind : (bit : ℕ → ℕ) (at n acc : ℕ) → bitsFrom bit at n acc ≡ acc * 2 ^ n + bitsFrom bit at n 0
 bits-behind bit at n acc = omega (arith, bits-low bit at n acc, bits-low bit at n 0)

@@ -16,7 +16,7 @@ use Rattle.text.specs.Window.{Window}
 use Rattle.text.specs.declared.Bits.{Bits}
 use Rattle.text.specs.declared.Coding.the-variants.{Numeric, Alphanumeric}
 use Rattle.text.proofs.PackLaws.{turned-cut}
-use Rattle.text.proofs.BitLaws.{low-same, low-bits, low-bit, cut-bit, bits-back, bits-add, bits-small, turned-low}
+use Rattle.text.proofs.BitLaws.{low-same, low-bit, bits-back, bits-of, bits-add, bits-small, turned-low}
 
 -- a number that is none of 0 to n - 1, one after the other, as a `match` leaves it
 abbrev NoneTo : ℕ → ℕ → Type 0
@@ -63,13 +63,11 @@ module _ (gs : List ℕ) where
   -- the bits of a group
   group-bits : (g : ℕ) → bitsFrom (bitIn gs) (20 * g) 20 0 ≡ getD gs g 0 % 2 ^ 20
   group-bits g =
-      bits-back (bitIn gs) (20 * g) 20
-      ∙ low-same (λ b. bitIn gs (20 * g + (20 - (b + 1)))) (λ b. getD gs g 0 / 2 ^ b % 2) 20
+      bits-of (bitIn gs) (20 * g) 20 (getD gs g 0)
       (λ b h.
       let q : (20 * g + (20 - (b + 1))) / 20 ≡ g = omega arith in
       let r : 19 - (20 * g + (20 - (b + 1))) % 20 ≡ b = omega arith in
       rw (q, r))
-      ∙ low-bits (getD gs g 0) 20
 
   -- ---- the window
 

@@ -29,8 +29,8 @@ loop-holds c = (omega arith, omega arith, below-none _)
 add-loop : tie.Need-add-loop Inv-loop μ-loop
 add-loop c = omega arith
 
-word-at-requires : tie.Need-word-at-requires Inv-loop μ-loop
-word-at-requires c κs = omega arith
+word-from-requires : tie.Need-word-from-requires Inv-loop μ-loop
+word-from-requires c κs = omega arith
 
 is-sync-requires : tie.Need-is-sync-requires Inv-loop μ-loop
 is-sync-requires c κs = search needs
@@ -40,7 +40,7 @@ returns c =
     let a = c .before .before .before .before .before .before .args in
     let s = now (a .bits) in
     let l = c .before .before .before .before .loop in
-    let none = batch-not s (l .e) (tested s (l .e) (c .before .before .word-at .ensures) (c .before .is-sync .ensures) (not-true _ (c .if1 .taken))) in
+    let none = batch-not s (l .e) (tested s (l .e) (c .before .before .word-from .ensures) (c .before .is-sync .ensures) (not-true _ (c .if1 .taken))) in
     sym (batches-is s (a .p) (l .b) (l .inv .2) (ap (isBatch s) (sym (l .inv .0)) ∙ none))
 
 add-b : tie.Need-add-b Inv-loop μ-loop
@@ -57,7 +57,7 @@ loop-again c =
     let a = c .before .before .before .before .before .before .args in
     let s = now (a .bits) in
     let l = c .before .before .before .before .loop in
-    let one = batch-is s (l .e) (omega arith) (tested s (l .e) (c .before .before .word-at .ensures) (c .before .is-sync .ensures) (not-false _ (c .if1 .left))) in
+    let one = batch-is s (l .e) (omega arith) (tested s (l .e) (c .before .before .word-from .ensures) (c .before .is-sync .ensures) (not-false _ (c .if1 .left))) in
     (omega arith, omega arith, below-more _ (l .b) (l .inv .2) (ap (isBatch s) (sym (l .inv .0)) ∙ one))
 
 returns-2 : tie.Need-returns-2 Inv-loop μ-loop
@@ -76,7 +76,7 @@ count-batches-spec =
     mul-n
     loop-holds
     add-loop
-    word-at-requires
+    word-from-requires
     is-sync-requires
     returns
     add-b

@@ -6,12 +6,12 @@ use lib.ListN.{length, length-set}
 use denote.Ref.{now}
 use Rattle.base.specs.Lists.{tab}
 use Rattle.base.proofs.ListLaws.{filled, tab-turn, tab-full}
-use Rattle.receiver.specs.Bits.{wordAt}
+use Rattle.receiver.specs.Bits.{wordFrom}
 use Rattle.receiver.proofs.fill_words.Statement.{statement}
 use Rattle.receiver.proofs.fill_words.Tie as tie
 
 abbrev Inv-loop : tie.InvT-loop
-Inv-loop bits p words₀ k₀ words k = (k ≤ length words₀) × (length words ≡ length words₀) × (words ≡ filled words₀ (tab (λ i. wordAt bits (p + 32 * i)) (length words₀)) k)
+Inv-loop bits p words₀ k₀ words k = (k ≤ length words₀) × (length words ≡ length words₀) × (words ≡ filled words₀ (tab (λ i. wordFrom bits (p + 32 * i)) (length words₀)) k)
 
 abbrev μ-loop : tie.MeasureT-loop
 μ-loop bits p words₀ k₀ words k = length words₀ - k
@@ -19,14 +19,14 @@ abbrev μ-loop : tie.MeasureT-loop
 loop-holds : tie.Need-loop-holds Inv-loop μ-loop
 loop-holds c = (omega arith, refl, refl)
 
-mul-word-at : tie.Need-mul-word-at Inv-loop μ-loop
-mul-word-at c = omega arith
+mul-word-from : tie.Need-mul-word-from Inv-loop μ-loop
+mul-word-from c = omega arith
 
-add-word-at : tie.Need-add-word-at Inv-loop μ-loop
-add-word-at c = omega arith
+add-word-from : tie.Need-add-word-from Inv-loop μ-loop
+add-word-from c = omega arith
 
-word-at-requires : tie.Need-word-at-requires Inv-loop μ-loop
-word-at-requires c κs = omega arith
+word-from-requires : tie.Need-word-from-requires Inv-loop μ-loop
+word-from-requires c κs = omega arith
 
 mul-words : tie.Need-mul-words Inv-loop μ-loop
 mul-words c = omega arith
@@ -46,7 +46,7 @@ loop-again c =
     let a = c .before .before .before .before .before .args in (
       omega arith,
       length-set (l .words) (l .k) _ ∙ l .inv .1,
-      tab-turn (λ k. wordAt (now (a .bits)) (a .p + 32 * k)) (length (now (a .words))) (now (a .words)) refl (l .k) (l .inv .2) (omega arith) (c .word-at .ensures),
+      tab-turn (λ k. wordFrom (now (a .bits)) (a .p + 32 * k)) (length (now (a .words))) (now (a .words)) refl (l .k) (l .inv .2) (omega arith) (c .word-from .ensures),
     )
 
 same-length : tie.Need-same-length Inv-loop μ-loop
@@ -56,7 +56,7 @@ returns : tie.Need-returns Inv-loop μ-loop
 returns c =
     let l = c .before .loop in
     let a = c .before .before .before .before .args in
-    tab-full (λ k. wordAt (now (a .bits)) (a .p + 32 * k)) (length (now (a .words))) (now (a .words)) refl (l .k) (l .inv .2) (omega arith)
+    tab-full (λ k. wordFrom (now (a .bits)) (a .p + 32 * k)) (length (now (a .words))) (now (a .words)) refl (l .k) (l .inv .2) (omega arith)
 
 pub fill-words-spec : {M : Type 1} → statement M
 fill-words-spec =
@@ -65,9 +65,9 @@ fill-words-spec =
     Inv-loop
     μ-loop
     loop-holds
-    mul-word-at
-    add-word-at
-    word-at-requires
+    mul-word-from
+    add-word-from
+    word-from-requires
     mul-words
     slice-write-words
     add-k

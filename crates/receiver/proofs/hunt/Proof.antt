@@ -5,7 +5,7 @@ use Prim.Native.Nat.{ℕ, _+_, _-_, _*_, _%_, _≤_, _<_}
 use native.Mathlib.Omega.{arith}
 use denote.Ref.{now}
 use borrow.Author.Needs.{needs}
-use Rattle.receiver.specs.Bits.{bitCount, wordAt}
+use Rattle.receiver.specs.Bits.{bitCount, wordFrom}
 use Rattle.receiver.specs.Stretches.{isBatch}
 use Rattle.receiver.proofs.BitLaws.{bit-small, word-next}
 use Rattle.receiver.proofs.StretchLaws.{batch-is, batch-not, tested, hunt-is, hunt-none, passed-more}
@@ -14,7 +14,7 @@ use Rattle.receiver.proofs.hunt.Tie as tie
 
 abbrev Inv-loop : tie.InvT-loop
 Inv-loop bits p n w₀ q₀ w q =
-    (p ≤ q) × (q ≤ bitCount bits) × (w ≡ wordAt bits q) × ((t : ℕ) → p ≤ t → t < q → isBatch bits t ≡ false)
+    (p ≤ q) × (q ≤ bitCount bits) × (w ≡ wordFrom bits q) × ((t : ℕ) → p ≤ t → t < q → isBatch bits t ≡ false)
 
 abbrev μ-loop : tie.MeasureT-loop
 μ-loop bits p n w₀ q₀ w q = bitCount bits - q
@@ -30,11 +30,11 @@ returns c =
     let a = c .before .before .args in
     sym (hunt-none (now (a .bits)) (a .p) (a .p) (omega arith) (λ q l m. absurd (omega arith)) (omega arith))
 
-word-at-requires : tie.Need-word-at-requires Inv-loop μ-loop
-word-at-requires c κs = omega arith
+word-from-requires : tie.Need-word-from-requires Inv-loop μ-loop
+word-from-requires c κs = omega arith
 
 loop-holds : tie.Need-loop-holds Inv-loop μ-loop
-loop-holds c = (omega arith, omega arith, c .word-at .ensures, λ t l m. absurd (omega arith))
+loop-holds c = (omega arith, omega arith, c .word-from .ensures, λ t l m. absurd (omega arith))
 
 add-loop : tie.Need-add-loop Inv-loop μ-loop
 add-loop c = omega arith
@@ -95,7 +95,7 @@ hunt-spec =
     mul-n
     add-if1
     returns
-    word-at-requires
+    word-from-requires
     loop-holds
     add-loop
     is-sync-requires

@@ -13,8 +13,8 @@ use borrow.Author.Needs.{needs}
 use Rattle.base.specs.Lists.{over, tab}
 use Rattle.base.proofs.ListLaws.{tab-length}
 use Rattle.reader.proofs.Reading.{the-type}
-use Rattle.receiver.specs.Bits.{bitCount, wordAt}
-use Rattle.receiver.specs.Stretches.{stretchAt, wordsIn}
+use Rattle.receiver.specs.Bits.{bitCount, wordFrom}
+use Rattle.receiver.specs.Stretches.{stretchAt, wordsOn}
 use Rattle.receiver.specs.Answers.{isCut}
 use Rattle.receiver.proofs.ReadLaws.{stretch-answer, stretch-totals, stretch-lines}
 use Rattle.receiver.proofs.StretchLaws.{stretch-inside}
@@ -40,11 +40,11 @@ start c = lent (c .before)
 abbrev filled : tie.After-fill-words → List ℕ
 filled c = c .fill-words .last .1 .1 .0
 
-fills : (c : tie.After-fill-words) → filled c ≡ tab (λ k. wordAt (now (start c .args .bits)) (start c .args .p + 32 * k)) (count (start c))
-fills c = c .fill-words .ensures ∙ ap (tab (λ k. wordAt (now (start c .args .bits)) (start c .args .p + 32 * k))) (part-length (c .before))
+fills : (c : tie.After-fill-words) → filled c ≡ tab (λ k. wordFrom (now (start c .args .bits)) (start c .args .p + 32 * k)) (count (start c))
+fills c = c .fill-words .ensures ∙ ap (tab (λ k. wordFrom (now (start c .args .bits)) (start c .args .p + 32 * k))) (part-length (c .before))
 
 filled-length : (c : tie.After-fill-words) → length (filled c) ≡ count (start c)
-filled-length c = ap length (fills c) ∙ tab-length (λ k. wordAt (now (start c .args .bits)) (start c .args .p + 32 * k)) (count (start c))
+filled-length c = ap length (fills c) ∙ tab-length (λ k. wordFrom (now (start c .args .bits)) (start c .args .p + 32 * k)) (count (start c))
 
 -- the part that is lent on is the same
 abbrev part : tie.After-fill-words → List ℕ
@@ -57,9 +57,9 @@ lent-length : (c : tie.After-fill-words) → length (part c) ≡ count (start c)
 lent-length c = ap length (part-is c) ∙ filled-length c
 
 -- they are the words of the stretch, and its end cuts as it should
-words-are : (c : tie.After-fill-words) → part c ≡ wordsIn (now (start c .args .bits)) (stretchAt (now (start c .args .bits)) (start c .args .p))
+words-are : (c : tie.After-fill-words) → part c ≡ wordsOn (now (start c .args .bits)) (stretchAt (now (start c .args .bits)) (start c .args .p))
 words-are c =
-    part-is c ∙ fills c ∙ ap (λ (b : ℕ). tab (λ k. wordAt (now (start c .args .bits)) (start c .args .p + 32 * k)) (17 * b)) (start c .pre .count)
+    part-is c ∙ fills c ∙ ap (λ (b : ℕ). tab (λ k. wordFrom (now (start c .args .bits)) (start c .args .p + 32 * k)) (17 * b)) (start c .pre .count)
 
 cut-is : (c : tie.Start) → leb (c .args .p + 544 * c .args .b + 544) (bitCount (now (c .args .bits))) ≡ isCut (now (c .args .bits)) (stretchAt (now (c .args .bits)) (c .args .p))
 cut-is c = ap (λ (b : ℕ). leb (c .args .p + 544 * b + 544) (bitCount (now (c .args .bits)))) (c .pre .count)

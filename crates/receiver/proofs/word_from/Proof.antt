@@ -1,10 +1,10 @@
--- `receiver::word_at` meets its contract. Assumes nothing.
+-- `receiver::word_from` meets its contract. Assumes nothing.
 use native.Mathlib.Omega.{arith}
 use denote.Ref.{now}
 use borrow.Author.Needs.{needs}
 use Rattle.receiver.proofs.BitLaws.{word-small, five-bits, whole-bits}
-use Rattle.receiver.proofs.word_at.Statement.{statement}
-use Rattle.receiver.proofs.word_at.Tie as tie
+use Rattle.receiver.proofs.word_from.Statement.{statement}
+use Rattle.receiver.proofs.word_from.Tie as tie
 
 cast-up : tie.Need-cast-up
 cast-up c = search needs
@@ -42,8 +42,8 @@ returns-2 c =
     let a = c .before .before .before .before .args in
     five-bits (now (a .bits)) (a .p) (c .before .before .four-bytes .ensures) (c .byte .ensures)
 
-pub word-at-spec : {M : Type 1} → statement M
-word-at-spec =
+pub word-from-spec : {M : Type 1} → statement M
+word-from-spec =
     tie.close
     (tie.spec
     cast-up
