@@ -8,4 +8,4 @@ index_in s start = cond (ltb (length s) start) (length s) start
 
 -- the reference r points into the slice s, at this index
 abbrev pub PointsInto : Bor (List ℕ) → Bor (List ℕ) → ℕ → Type 0
-PointsInto r s start = r.ptr ≡ (s.ref_ptr.0, s.ref_ptr.1 + index_in s.now start)
+PointsInto r s start = r.ref_ptr ≡ (s.ref_ptr.0, s.ref_ptr.1 + index_in s.now start)

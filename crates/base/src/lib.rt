@@ -1,4 +1,6 @@
 // What every floor of the library stands on: upper-case hexadecimal digits both ways, lines, and parts of slices.
+#![tactic(auto)]
+
 ghost use Rattle.std.specs.Prelude.{◌≡◌, ◌%◌, ◌^◌, length, get_or, take, drop};
 ghost use Rattle.base.specs.Hex.{is_hex, hex_of, digit_value, digit_of, hex_number, hex_word, digits_of, bytes_of};
 ghost use Rattle.base.specs.Leading.{leading};
@@ -6,7 +8,7 @@ ghost use Rattle.base.specs.Lines.{line_end};
 ghost use Rattle.base.specs.Part.{PointsInto};
 
 // What a slice of bytes writes.
-#[derive(Drop)]
+#[derive(Clone, Copy)]
 pub enum HexWord {
     // All are digits, and they write this number.
     Number(u32),

@@ -1,4 +1,5 @@
 // The library as C calls it: each function is one call of the library, whose answer crosses as numbers (include/spuggenor.h).
+#![tactic(auto)]
 ghost use Rattle.std.specs.Prelude.{◌≡◌, length};
 ghost use Rattle.base.specs.Lists.{over};
 ghost use Rattle.codeword.specs.Answer.{answer};
@@ -29,7 +30,7 @@ use transmission::Report;
 
 // A word, 0 or 20, and how many bits are changed.
 #[repr(C)]
-#[derive(Drop)]
+#[derive(Clone, Copy)]
 pub struct CardWord {
     pub word: u32,
     pub number: u32,
@@ -38,7 +39,7 @@ pub struct CardWord {
 
 // A job's report.
 #[repr(C)]
-#[derive(Drop)]
+#[derive(Clone, Copy)]
 pub struct CardReport {
     pub place: usize,
     pub position: usize,
@@ -49,7 +50,7 @@ pub struct CardReport {
 
 // How many bytes are written.
 #[repr(C)]
-#[derive(Drop)]
+#[derive(Clone, Copy)]
 pub struct CardBytes {
     pub place: usize,
     pub position: usize,
@@ -59,7 +60,7 @@ pub struct CardBytes {
 
 // How many bytes of page lines are written, and what was heard.
 #[repr(C)]
-#[derive(Drop)]
+#[derive(Clone, Copy)]
 pub struct CardReading {
     pub place: usize,
     pub bytes: usize,
@@ -72,7 +73,7 @@ pub struct CardReading {
 
 // How many bytes of one identity's lines are written, and how many lines these are.
 #[repr(C)]
-#[derive(Drop)]
+#[derive(Clone, Copy)]
 pub struct CardFollowing {
     pub place: usize,
     pub bytes: usize,
@@ -82,7 +83,7 @@ pub struct CardFollowing {
 
 // The same of a recording as of a reading, with the number of its batches.
 #[repr(C)]
-#[derive(Drop)]
+#[derive(Clone, Copy)]
 pub struct CardReceiving {
     pub place: usize,
     pub bytes: usize,
@@ -96,7 +97,7 @@ pub struct CardReceiving {
 
 // A number and its places.
 #[repr(C)]
-#[derive(Drop)]
+#[derive(Clone, Copy)]
 pub struct CardRefusal {
     pub place: usize,
     pub position: usize,
@@ -105,7 +106,7 @@ pub struct CardRefusal {
 
 // A step's word; done is 1 where all words are out.
 #[repr(C)]
-#[derive(Drop)]
+#[derive(Clone, Copy)]
 pub struct CardStep {
     pub word: u32,
     pub done: u32,
@@ -113,14 +114,14 @@ pub struct CardStep {
 }
 
 // The answer to a listing, and the report that the caller then keeps.
-#[derive(Drop)]
+#[derive(Clone, Copy)]
 struct CoverageThen {
     refusal: CardRefusal,
     coverage: Coverage,
 }
 
 // The answer to a job, and the state that the caller then keeps, without the message words.
-#[derive(Drop)]
+#[derive(Clone, Copy)]
 struct Begun {
     refusal: CardRefusal,
     cursor: Cursor,

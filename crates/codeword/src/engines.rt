@@ -6,7 +6,7 @@ ghost use Rattle.codeword.specs.Nearest.{nearest};
 use super::{Correction, correct, correct_slowly};
 
 // Which engine corrects.
-#[derive(Drop)]
+#[derive(Clone, Copy)]
 pub enum Engine {
     // `correct`: by checks and parity.
     Fast,
@@ -15,7 +15,7 @@ pub enum Engine {
 }
 
 // What `correct` and `correct_slowly` return for a word.
-#[derive(Drop)]
+#[derive(Clone, Copy)]
 pub struct Both {
     pub fast: Correction,
     pub slow: Correction,

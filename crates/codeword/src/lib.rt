@@ -1,4 +1,5 @@
 // The (31,21) code with its parity bit: codewords, and the correction of a received word.
+#![tactic(auto)]
 ghost use Rattle.std.specs.Prelude.{◌≡◌, ◌/◌, ◌%◌, ◌^◌, ◌<◌, eqb};
 ghost use Rattle.codeword.specs.Answer.{answer};
 ghost use Rattle.codeword.specs.Code.{remainder, weight, codeword, sync, idle, address_bits, message_bits};
@@ -12,7 +13,7 @@ mod engines;
 mod slow;
 
 // A word of 32 bits that obeys the code: bit 1, sent first, is the top bit.
-#[derive(Drop)]
+#[derive(Clone, Copy)]
 pub struct Codeword(u32);
 
 impl Codeword {
@@ -52,7 +53,7 @@ impl Codeword {
 }
 
 // What reading a word finds.
-#[derive(Drop)]
+#[derive(Clone, Copy)]
 pub enum Correction {
     // The one codeword at most two bits away, and how many bits are changed: 0, 1 or 2.
     Corrected(Codeword, u32),

@@ -1,5 +1,6 @@
 // A month of listings in numbers (document 02, R-12): for each frame and for sync the words read unchanged and mended, for each frame the
 // lost ones and the pages, whole and cut, and the listings that are refused.
+#![tactic(auto)]
 ghost use Rattle.std.specs.Prelude.{◌≡◌, false, ◌+◌, ◌*◌, ◌/◌, ◌≤◌, ◌<◌, length, replicate};
 ghost use Rattle.codeword.specs.Answer.{changed};
 ghost use Rattle.reader.specs.Answers.{judge_decoded};
@@ -17,7 +18,7 @@ use reader::{Fault, Meaning, Verdict};
 
 // What listings add up to. Every pattern of its 220 bytes is a value.
 #[repr(C)]
-#[derive(Drop)]
+#[derive(Clone, Copy)]
 pub struct Coverage {
     // How many listings there were, refused ones among them.
     pub listings: u32,
@@ -32,7 +33,7 @@ pub struct Coverage {
 }
 
 // What adding a listing answers.
-#[derive(Drop)]
+#[derive(Clone, Copy)]
 pub enum Adding {
     Added,
     // Number 11: over 1,000 listings, or a count over 600 times the listings.
@@ -42,7 +43,7 @@ pub enum Adding {
 }
 
 // An answer, and the report then.
-#[derive(Drop)]
+#[derive(Clone, Copy)]
 pub struct Covered {
     pub answer: Adding,
     pub coverage: Coverage,
@@ -50,14 +51,14 @@ pub struct Covered {
 
 // Mended bits per million received, rounded down, and the remainder of that division.
 #[repr(C)]
-#[derive(Drop)]
+#[derive(Clone, Copy)]
 pub struct Rate {
     pub rate: u64,
     pub remainder: u64,
 }
 
 // A slot's word once it is read: its class, and what it says.
-#[derive(Drop)]
+#[derive(Clone, Copy)]
 struct SlotWord {
     class: u32,
     says: Meaning,

@@ -1,4 +1,5 @@
 // One identity followed (document 02, R-4): the page lines that the reader prints for it, without looking at most of the words.
+#![tactic(auto)]
 ghost use Rattle.std.specs.Prelude.{◌≡◌, ◌%◌, ◌*◌, ◌≤◌, ◌<◌, length};
 ghost use Rattle.base.specs.Lists.{over};
 ghost use Rattle.codeword.specs.Nearest.{nearest};
@@ -20,7 +21,7 @@ use listing::Listing;
 use reader::{Fault, Meaning, Reading, Verdict};
 
 // Why an identity is not followed.
-#[derive(Drop)]
+#[derive(Clone, Copy)]
 pub enum Refusal {
     // Number 2: it is over 1FFFFF.
     IdentityRange,
@@ -33,7 +34,7 @@ pub enum Refusal {
 }
 
 // What following an identity answers.
-#[derive(Drop)]
+#[derive(Clone, Copy)]
 pub enum Following {
     // How many lines there are, and how many bytes of them are written.
     Followed { lines: u32, bytes: usize },
@@ -41,7 +42,7 @@ pub enum Following {
 }
 
 // What a slot of its frame is to the identity.
-#[derive(Drop)]
+#[derive(Clone, Copy)]
 enum Own {
     // Its address, with this function.
     Page(u32),
@@ -49,21 +50,21 @@ enum Own {
 }
 
 // The slot behind a message's last word, and whether the message is cut short there.
-#[derive(Drop)]
+#[derive(Clone, Copy)]
 struct Message {
     end: usize,
     cut: bool,
 }
 
 // The slot behind a page's last word, and the length of its line.
-#[derive(Drop)]
+#[derive(Clone, Copy)]
 struct Line {
     end: usize,
     bytes: usize,
 }
 
 // How many lines are printed, and how many bytes they take.
-#[derive(Drop)]
+#[derive(Clone, Copy)]
 struct Progress {
     lines: u32,
     bytes: usize,

@@ -1,5 +1,6 @@
 // Reads a job's page lines with its phrase book (document 01, "Page lines" and the table of refusals, with requests R-1, R-6 and R-11). An
 // empty book is none.
+#![tactic(auto)]
 ghost use Rattle.std.specs.Prelude.{◌≡◌, cond, [], ◌-◌, ◌*◌, ◌^◌, ◌≤◌, ◌<◌, length, take, drop, replicate};
 ghost use Rattle.base.specs.Hex.{is_hex, bytes_of};
 ghost use Rattle.base.specs.Leading.{leading};
@@ -21,7 +22,7 @@ use phrases::Phrase;
 use text::Coding;
 
 // Why a job is declined: a line's refusals in the order of their rank, then the two of the whole job, then its book's.
-#[derive(Drop)]
+#[derive(Clone, Copy)]
 pub enum Refusal {
     Malformed,
     IdentityRange,
@@ -42,7 +43,7 @@ pub enum Refusal {
 
 // A page: its identity, its kind, the byte at which the digits of its text start, of the book where the kind is 9, else of the job, and
 // how many they are. No byte of it is unused, so that an array of them is cleared at once.
-#[derive(Drop)]
+#[derive(Clone, Copy)]
 pub struct Page {
     pub identity: u32,
     pub kind: u32,
@@ -51,13 +52,13 @@ pub struct Page {
 }
 
 // What a page line says.
-#[derive(Drop)]
+#[derive(Clone, Copy)]
 enum LineAnswer {
     Good(Page),
     Faulty(Refusal),
 }
 
-#[derive(Drop)]
+#[derive(Clone, Copy)]
 pub enum JobAnswer {
     // The number of pages.
     Accepted(usize),
@@ -66,7 +67,7 @@ pub enum JobAnswer {
 }
 
 // A job's answer, and the pages of an accepted one. Zeros stand behind the last page, and everywhere where the job is refused.
-#[derive(Drop)]
+#[derive(Clone, Copy)]
 pub struct Pages {
     pub answer: JobAnswer,
     pub pages: [Page; 48],
@@ -514,7 +515,7 @@ pub fn page_text<'a>(job: &'a [u8], book: &'a [u8], page: Page) -> &'a [u8]
 }
 
 // What printing a page line answers.
-#[derive(Drop)]
+#[derive(Clone, Copy)]
 pub enum Printing {
     // The line's length in bytes.
     Printed(usize),

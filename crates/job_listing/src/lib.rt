@@ -1,4 +1,5 @@
 // A job with its phrase book straight to its listing: what the sending program does with its input.
+#![tactic(auto)]
 ghost use Rattle.std.specs.Prelude.{◌≡◌, ◌≤◌, length, take};
 ghost use Rattle.base.specs.Lists.{over};
 ghost use Rattle.job.specs.Submission.{with_book};
@@ -10,7 +11,7 @@ use listing::Writing;
 use transmission::Report;
 
 // What listing a job answers.
-#[derive(Drop)]
+#[derive(Clone, Copy)]
 pub enum Listed {
     // The number of bytes.
     Written(usize),

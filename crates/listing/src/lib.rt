@@ -1,4 +1,5 @@
 // A transmission as text, and the words of such a text (document 01, "Listings and reading").
+#![tactic(auto)]
 ghost use Rattle.std.specs.Prelude.{◌≡◌, cond, ◌*◌, ◌≤◌, length, drop, replicate};
 ghost use Rattle.base.specs.Lines.{split};
 ghost use Rattle.base.specs.Lists.{over};
@@ -12,7 +13,7 @@ ghost use Rattle.listing.specs.declared.Fault.TheVariants.{Malformed, TooMany};
 use base::HexWord;
 
 // Why a byte string is no listing. A line is counted from 1.
-#[derive(Drop)]
+#[derive(Clone, Copy)]
 pub enum Fault {
     // This line is malformed or has no newline, or the text ends before it.
     Malformed(usize),
@@ -21,7 +22,7 @@ pub enum Fault {
 }
 
 // What a byte string is as a listing.
-#[derive(Drop)]
+#[derive(Clone, Copy)]
 pub enum Listing {
     // So many preamble lines, and so many batches behind them.
     WellFormed { preamble: usize, batches: usize },
@@ -29,14 +30,14 @@ pub enum Listing {
 }
 
 // What a byte string is as a listing, and the words of its batches. Zeros stand behind them, and everywhere where it is declined.
-#[derive(Drop)]
+#[derive(Clone, Copy)]
 pub struct Decoded {
     pub listing: Listing,
     pub words: [u32; 5100],
 }
 
 // What writing a listing answers.
-#[derive(Drop)]
+#[derive(Clone, Copy)]
 pub enum Writing {
     // How many bytes are written.
     Bytes(usize),

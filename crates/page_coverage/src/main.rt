@@ -1,10 +1,11 @@
 // The coverage program, `page_coverage FILE...`: the report of the files' listings, or one line `refused N place P`, on standard output.
 // `program::cover` says which. A file that can't be read is named on standard error, and nothing is printed.
+#![tactic(auto)]
 use coverage::{Adding, Covered};
 use libc::{STDERR_FILENO, STDOUT_FILENO};
 
 // What the files so far add up to, and whether the last one can't be read.
-#[derive(Drop)]
+#[derive(Clone, Copy)]
 struct Fed {
     failed: bool,
     covered: Covered,

@@ -1,5 +1,6 @@
 // The following program, `page_follow IDENTITY`: a listing on standard input, the page lines of that identity in slot order or one line
 // `refused N place P` on standard output. `program::follow` says which. IDENTITY is six upper-case hexadecimal digits.
+#![tactic(auto)]
 use base::HexWord;
 use libc::{STDERR_FILENO, STDOUT_FILENO};
 

@@ -1,5 +1,6 @@
 // The reading program, on the fast engine: a listing on standard input, its page lines in slot order or one line `refused N place P` on
 // standard output. `program::read` says which.
+#![tactic(auto)]
 use codeword::Engine;
 use libc::{STDERR_FILENO, STDOUT_FILENO};
 

@@ -1,5 +1,6 @@
 // The receiving program: a recording's bits on standard input, its page lines in slot order or one line `refused N place P` on standard
 // output. `program::receive` says which.
+#![tactic(auto)]
 use libc::{STDERR_FILENO, STDOUT_FILENO};
 
 fn main() {

@@ -1,5 +1,6 @@
 // The sending program, `page_send [BOOK]`: a job on standard input, its listing or one line `refused N place P` on standard output.
 // `program::send` says which. BOOK is the file of a phrase book; without it there is none.
+#![tactic(auto)]
 use libc::{STDERR_FILENO, STDOUT_FILENO};
 
 // Sends the job on standard input with this phrase book.

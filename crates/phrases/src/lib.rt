@@ -1,4 +1,5 @@
 // The phrase book (request R-6): whether one is well formed, and where a phrase stands in it.
+#![tactic(auto)]
 ghost use Rattle.std.specs.Prelude.{◌≡◌};
 ghost use Rattle.base.specs.Lines.{split};
 ghost use Rattle.phrases.specs.Book.{is_phrase, book_fault, is_decimal, is_two_digits, phrase_at, phrase_for};
@@ -6,7 +7,7 @@ ghost use Rattle.phrases.specs.Book.{is_phrase, book_fault, is_decimal, is_two_d
 use text::Coding;
 
 // A phrase of a book: the byte at which its digits start, and how many they are.
-#[derive(Drop)]
+#[derive(Clone, Copy)]
 pub enum Phrase {
     At { start: usize, length: usize },
     Missing,

@@ -1,10 +1,11 @@
 // Placement of a job's pages in frames and batches: document 01, "Placement", with the pause after a message (R-3).
+#![tactic(auto)]
 ghost use Rattle.std.specs.Prelude.{◌≡◌, true, not, cond, ◌&&◌, map, pred, ◌*◌, ◌%◌, eqb, length, replicate};
 ghost use Rattle.base.specs.Lists.{over};
 ghost use Rattle.placement.specs.Placement.{is_sendable, job_of, may_start, state_at, batches, slots, batches_in, slots_in};
 
 // What a free slot starts: a page, by its number in the job, or nothing.
-#[derive(Drop)]
+#[derive(Clone, Copy)]
 enum Start {
     Page(usize),
     Idle,

@@ -2,6 +2,7 @@
 // coverage one files instead, and the bytes out that are printed (document 01, "The two programs", and requests R-4, R-6, R-10 and R-12).
 // Each program is one call of `send`, `read`, `follow`, `receive` or `cover`, before the last of which each file is added by
 // `coverage::add`, and the few lines around it that read and write.
+#![tactic(auto)]
 ghost use Rattle.std.specs.Prelude.{◌≡◌, ◌++◌, ◌+◌, ◌≤◌, ◌<◌, length, take, drop};
 ghost use Rattle.io.specs.Counts.{IsPrefixLen};
 ghost use Rattle.base.specs.Lists.{over};
@@ -20,7 +21,7 @@ use reader::Reading;
 use receiver::Receiving;
 
 // What was read of standard input or of a file: how many bytes, and whether it can't be read.
-#[derive(Drop)]
+#[derive(Clone, Copy)]
 pub struct Input {
     pub bytes: usize,
     pub failed: bool,

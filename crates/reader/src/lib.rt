@@ -1,4 +1,5 @@
 // Words or a listing to page lines and a report (document 01, "Listings and reading").
+#![tactic(auto)]
 ghost use Rattle.std.specs.Prelude.{◌≡◌, ◌+◌, ◌*◌, ◌/◌, ◌≤◌, ◌<◌, length};
 ghost use Rattle.base.specs.Lists.{over};
 ghost use Rattle.codeword.specs.Nearest.{nearest};
@@ -20,7 +21,7 @@ use job::Printing;
 use text::{Coding, Digits};
 
 // What a received word says.
-#[derive(Drop)]
+#[derive(Clone, Copy)]
 pub enum Meaning {
     // No codeword is near, or one with a reserved upper value that is not idle itself.
     Lost,
@@ -32,7 +33,7 @@ pub enum Meaning {
 }
 
 // Why words or a listing can't be read.
-#[derive(Drop)]
+#[derive(Clone, Copy)]
 pub enum Fault {
     // Number 21, with the line; 0 for words.
     Malformed(usize),
@@ -43,7 +44,7 @@ pub enum Fault {
 }
 
 // Whether words can be read, before their pages are looked at.
-#[derive(Drop)]
+#[derive(Clone, Copy)]
 pub enum Verdict {
     // At most 300 whole batches, which all begin with sync.
     Sound,
@@ -52,14 +53,14 @@ pub enum Verdict {
 
 // How many bits are changed in the slots' words, of which lost ones count 0, and in the sync words.
 #[repr(C)]
-#[derive(Drop)]
+#[derive(Clone, Copy)]
 pub struct Changes {
     pub slots: u32,
     pub syncs: u32,
 }
 
 // What reading answers.
-#[derive(Drop)]
+#[derive(Clone, Copy)]
 pub enum Reading {
     // Pages, lost words and orphans, the changed bits, and how many bytes of page lines are written.
     Read {
@@ -75,14 +76,14 @@ pub enum Reading {
 }
 
 // What a received word is read as: its symbol, and how many bits are changed, none where it is lost.
-#[derive(Drop)]
+#[derive(Clone, Copy)]
 struct ReadWord {
     symbol: u32,
     changed: u32,
 }
 
 // What is kept of a reading before a slot.
-#[derive(Drop)]
+#[derive(Clone, Copy)]
 struct Progress {
     // One more than the slot of the open page's address; 0 where no page is open.
     held: usize,

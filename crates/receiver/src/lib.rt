@@ -1,4 +1,5 @@
 // The radio's bits to page lines and a report (document 02, R-10).
+#![tactic(auto)]
 ghost use Rattle.std.specs.Prelude.{◌≡◌, ◌+◌, ◌*◌, ◌≤◌, ◌<◌, length, get_or, take};
 ghost use Rattle.base.specs.Lists.{over, tab};
 ghost use Rattle.reader.specs.Lines.{lines_heard};
@@ -11,7 +12,7 @@ use codeword::Engine;
 use reader::{Changes, Reading};
 
 // Why a recording is declined.
-#[derive(Drop)]
+#[derive(Clone, Copy)]
 pub enum Refusal {
     // Number 28: it has over 65,536 bytes.
     TooLong,
@@ -23,7 +24,7 @@ pub enum Refusal {
 
 // The report: how many batches there are; the pages, lost words and orphans, and the changed bits, as the reader counts them; and how
 // many bytes of page lines are written.
-#[derive(Drop)]
+#[derive(Clone, Copy)]
 pub struct Totals {
     pub batches: u32,
     pub pages: u32,
@@ -34,7 +35,7 @@ pub struct Totals {
 }
 
 // What receiving answers.
-#[derive(Drop)]
+#[derive(Clone, Copy)]
 pub enum Receiving {
     Received(Totals),
     Declined(Refusal),

@@ -1,4 +1,5 @@
 // The sender: a job's words one at a time, from a state that the caller keeps (document 01, "Placement").
+#![tactic(auto)]
 ghost use Rattle.std.specs.Prelude.{◌≡◌, false, ◌&&◌, ◌||◌, List, ℕ, ◌+◌, ◌≤◌, eqb, leb, ltb, length, get_or};
 ghost use Rattle.base.specs.Lists.{over, tab};
 ghost use Rattle.base.specs.Search.{least};
@@ -18,7 +19,7 @@ use job::JobAnswer;
 
 // Where the transmission stands. A flag is set where it is not 0.
 #[repr(C)]
-#[derive(Drop)]
+#[derive(Clone, Copy)]
 pub struct Cursor {
     // The next slot, counted through the batches, sync not counted.
     pub slot: u32,
@@ -38,7 +39,7 @@ pub struct Cursor {
 
 // The pages of a job, which no step alters.
 #[repr(C)]
-#[derive(Drop)]
+#[derive(Clone, Copy)]
 pub struct PageTable {
     // How many pages there are. What stands behind them is not examined.
     pub count: u32,
@@ -53,7 +54,7 @@ pub struct PageTable {
 
 // The state: 16,628 bytes without padding, of which every pattern is a value.
 #[repr(C)]
-#[derive(Drop)]
+#[derive(Clone, Copy)]
 pub struct Sender {
     pub cursor: Cursor,
     pub pages: PageTable,
@@ -64,7 +65,7 @@ pub struct Sender {
 }
 
 // What a step answers.
-#[derive(Drop)]
+#[derive(Clone, Copy)]
 pub enum Answer {
     // The next word.
     Word(u32),
@@ -75,14 +76,14 @@ pub enum Answer {
 }
 
 // A job's answer, and the state that it gives.
-#[derive(Drop)]
+#[derive(Clone, Copy)]
 pub struct Started {
     pub answer: JobAnswer,
     pub state: Sender,
 }
 
 // A job's answer, and the state that it gives, without the message words.
-#[derive(Drop)]
+#[derive(Clone, Copy)]
 pub struct Opening {
     pub answer: JobAnswer,
     pub cursor: Cursor,
@@ -91,14 +92,14 @@ pub struct Opening {
 }
 
 // A step's answer and the state that it leaves.
-#[derive(Drop)]
+#[derive(Clone, Copy)]
 pub struct Stepped {
     pub answer: Answer,
     pub state: Sender,
 }
 
 // What a step puts out: the message word that its plan names, a fixed word, the end, or the refusal.
-#[derive(Drop)]
+#[derive(Clone, Copy)]
 enum Output {
     Message,
     Fixed(u32),
@@ -107,7 +108,7 @@ enum Output {
 }
 
 // What a step does: what it puts out, the message word to read, a page's flag to write, and the next cursor.
-#[derive(Drop)]
+#[derive(Clone, Copy)]
 struct Plan {
     output: Output,
     at: usize,

@@ -1,5 +1,6 @@
 // The characters of a page's text and its 20-bit message groups (document 01, "Texts"), and the groups of data (request R-11).
 // A text is handed in as it stands in a job: pairs of upper-case hexadecimal digits; data in fives of them.
+#![tactic(auto)]
 ghost use Rattle.std.specs.Prelude.{◌≡◌, ◌*◌, ◌%◌, ◌≤◌, ◌<◌, length, get_or, take};
 ghost use Rattle.base.specs.Hex.{hex_of, digit_of, bytes_of};
 ghost use Rattle.base.specs.Lists.{over, tab};
@@ -13,14 +14,14 @@ ghost use Rattle.text.specs.Window.{More};
 ghost use Rattle.text.specs.declared.Coding.TheVariants.{Numeric, Alphanumeric};
 
 // The two ways to write a text in bits.
-#[derive(Drop)]
+#[derive(Clone, Copy)]
 pub enum Coding {
     Numeric,
     Alphanumeric,
 }
 
 // What a byte is as a numeric character: its four-bit value, or none.
-#[derive(Drop)]
+#[derive(Clone, Copy)]
 enum NumericValue {
     Value(u8),
     NotNumeric,
@@ -204,7 +205,7 @@ fn char_bits(c: Coding, text: &[u8], k: usize) -> u32
 
 // Bits on their way into groups, or out of them: the low `have` bits of the window, the first on top, and the index of the next character,
 // or group.
-#[derive(Drop)]
+#[derive(Clone, Copy)]
 struct Bits {
     window: u64,
     have: usize,
@@ -395,7 +396,7 @@ fn write_alphanumeric(groups: &[u32], digits: &mut [u8]) -> usize
 }
 
 // What writing the text of groups answers.
-#[derive(Drop)]
+#[derive(Clone, Copy)]
 pub enum Digits {
     // How many digits are written.
     Written(usize),

@@ -1,4 +1,5 @@
 // A job's words: sending a job into lent slices (document 01, "Placement").
+#![tactic(auto)]
 ghost use Rattle.std.specs.Prelude.{◌≡◌, ◌+◌, ◌≤◌, ◌<◌, length};
 ghost use Rattle.base.specs.Lists.{over, tab};
 ghost use Rattle.job.specs.Line.{kind_sent};
@@ -17,7 +18,7 @@ use job::{JobAnswer, Page, Pages, Refusal};
 const PREAMBLE: u32 = 0xAAAA_AAAA;
 
 // What sending a job answers.
-#[derive(Drop)]
+#[derive(Clone, Copy)]
 pub enum Report {
     // The number of batches, and of words: 18 plus 17 a batch.
     Sent { batches: u32, words: u32 },

@@ -1,6 +1,7 @@
 // Runs worked examples of document 01, and both sides of the limits of its rules. Each line of standard input is an example: a
 // letter that says what is asked, a space, and the question. The program prints the line and, behind it, what the library answers.
 // The small letters w, r and l ask what W, R and L ask, of the slow engine.
+#![tactic(auto)]
 use codeword::{Codeword, Correction, Engine};
 use job::JobAnswer;
 use libc::{STDIN_FILENO, STDOUT_FILENO};
