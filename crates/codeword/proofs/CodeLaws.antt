@@ -21,15 +21,15 @@ unfolding ones_in
 ones_more zero n h = omega arith
 ones_more (suc k) n h = ap (λ (x : ℕ). n % 2 + x) (ones_more k (n / 2) (omega (arith, pow-suc 2 k)))
 
-ones_in : (k n : ℕ) → n < 2 ^ k → ones n ≡ ones_in k n
+ones_in_lem : (k n : ℕ) → n < 2 ^ k → ones n ≡ ones_in k n
 unfolding ones ones_in
-ones_in zero n h = let none : n ≡ 0 = omega arith in ap ones none
-ones_in (suc k) n h = ones_step n ∙ ap (λ (x : ℕ). n % 2 + x) (ones_in k (n / 2) (omega (arith, pow-suc 2 k)))
+ones_in_lem zero n h = let none : n ≡ 0 = omega arith in ap ones none
+ones_in_lem (suc k) n h = ones_step n ∙ ap (λ (x : ℕ). n % 2 + x) (ones_in_lem k (n / 2) (omega (arith, pow-suc 2 k)))
 
 -- `count_ones` counts a word's ones
 pub weight_ones : (w : ℕ) → w < 2 ^ 32 → ones w ≡ weight w
 unfolding weight
-weight_ones w h = ones_in 32 w h
+weight_ones w h = ones_in_lem 32 w h
 
 -- a word has at most 32 ones
 ones_few : (k n : ℕ) → ones_in k n ≤ k

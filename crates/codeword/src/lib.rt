@@ -1,5 +1,6 @@
 // The (31,21) code with its parity bit: codewords, and the correction of a received word.
 #![tactic(auto)]
+
 ghost use Rattle.std.specs.Prelude.{◌≡◌, ◌/◌, ◌%◌, ◌^◌, ◌<◌, eqb};
 ghost use Rattle.codeword.specs.Answer.{answer};
 ghost use Rattle.codeword.specs.Code.{remainder, weight, codeword, sync, idle, address_bits, message_bits};

@@ -1,12 +1,10 @@
 -- `codeword::remainder` meets its contract: both are linear, and they are the same at the 32 words of a single one.
 -- Assumes nothing.
 use native.Mathlib.Omega.{arith}
-use borrow.Author.Rules.{rules}
 use Rattle.codeword.specs.Code.{reduce, remainder}
 use Rattle.codeword.proofs.Linear.{remainder_xor}
 use Rattle.codeword.proofs.Maps.{Map, word, left, right, low, sum, run, linear, agree, equal}
-use Rattle.codeword.proofs.remainder.Statement.{statement}
-use Rattle.codeword.proofs.remainder.Tie as tie
+use Rattle.codeword.proofs.remainder.Goals as goal
 
 -- what the code does
 scheme : Map
@@ -17,15 +15,6 @@ scheme =
     let v = sum q (left 64 3 q) in
     low 10 (sum (sum (sum p v) (left 64 5 v)) (left 64 6 v))
 
-cast-p : tie.Need-overflow-cast-p
-cast-p c = search rules
-
-cast-result : tie.Need-overflow-cast-result
-cast-result c = search rules
-
-returns : tie.Need-returns
+pub returns : goal.returns
 unfolding scheme run agree remainder reduce
 returns c = equal (run scheme) (remainder 31) (linear scheme) (remainder_xor 31) 32 tt c.args.polynomial (omega arith)
-
-pub remainder-spec : {M : Type 1} → statement M
-remainder-spec = tie.close (tie.spec cast-p cast-result returns)
