@@ -1,6 +1,7 @@
 // The characters of a page's text and its 20-bit message groups (document 01, "Texts"), and the groups of data (request R-11).
 // A text is handed in as it stands in a job: pairs of upper-case hexadecimal digits; data in fives of them.
 #![tactic(auto)]
+
 ghost use Rattle.std.specs.Prelude.{◌≡◌, ◌*◌, ◌%◌, ◌≤◌, ◌<◌, length, get_or, take};
 ghost use Rattle.base.specs.Hex.{hex_of, digit_of, bytes_of};
 ghost use Rattle.base.specs.Lists.{over, tab};

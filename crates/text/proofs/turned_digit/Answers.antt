@@ -5,86 +5,80 @@ use lib.Dec.{lit<}
 use Rattle.base.specs.Hex.{hex_of, digit_value}
 use Rattle.base.proofs.HexLaws.{past, behind, none_value, value_low}
 use Rattle.text.specs.Coding.{bits_from, turned_of}
-use Rattle.text.proofs.turned_digit.Statement.{statement}
-use Rattle.text.proofs.turned_digit.Tie as tie
+use Rattle.text.proofs.turned_digit.Goals as goal
 
-returns : tie.Need-returns
+pub returns-in-48 : goal.returns-in-48
 unfolding hex_of turned_of bits_from
-returns c = rw c.match.keys1
+returns-in-48 c = rw c.in-48.is
 
-returns-2 : tie.Need-returns-2
+pub returns-in-49 : goal.returns-in-49
 unfolding hex_of turned_of bits_from
-returns-2 c = rw c.match.keys2
+returns-in-49 c = rw c.in-49.is
 
-returns-3 : tie.Need-returns-3
+pub returns-in-50 : goal.returns-in-50
 unfolding hex_of turned_of bits_from
-returns-3 c = rw c.match.keys3
+returns-in-50 c = rw c.in-50.is
 
-returns-4 : tie.Need-returns-4
+pub returns-in-51 : goal.returns-in-51
 unfolding hex_of turned_of bits_from
-returns-4 c = rw c.match.keys4
+returns-in-51 c = rw c.in-51.is
 
-returns-5 : tie.Need-returns-5
+pub returns-in-52 : goal.returns-in-52
 unfolding hex_of turned_of bits_from
-returns-5 c = rw c.match.keys5
+returns-in-52 c = rw c.in-52.is
 
-returns-6 : tie.Need-returns-6
+pub returns-in-53 : goal.returns-in-53
 unfolding hex_of turned_of bits_from
-returns-6 c = rw c.match.keys6
+returns-in-53 c = rw c.in-53.is
 
-returns-7 : tie.Need-returns-7
+pub returns-in-54 : goal.returns-in-54
 unfolding hex_of turned_of bits_from
-returns-7 c = rw c.match.keys7
+returns-in-54 c = rw c.in-54.is
 
-returns-8 : tie.Need-returns-8
+pub returns-in-55 : goal.returns-in-55
 unfolding hex_of turned_of bits_from
-returns-8 c = rw c.match.keys8
+returns-in-55 c = rw c.in-55.is
 
-returns-9 : tie.Need-returns-9
+pub returns-in-56 : goal.returns-in-56
 unfolding hex_of turned_of bits_from
-returns-9 c = rw c.match.keys9
+returns-in-56 c = rw c.in-56.is
 
-returns-10 : tie.Need-returns-10
+pub returns-in-57 : goal.returns-in-57
 unfolding hex_of turned_of bits_from
-returns-10 c = rw c.match.keys10
+returns-in-57 c = rw c.in-57.is
 
-returns-11 : tie.Need-returns-11
+pub returns-in-65 : goal.returns-in-65
 unfolding hex_of turned_of bits_from
-returns-11 c = rw c.match.keys11
+returns-in-65 c = rw c.in-65.is
 
-returns-12 : tie.Need-returns-12
+pub returns-in-66 : goal.returns-in-66
 unfolding hex_of turned_of bits_from
-returns-12 c = rw c.match.keys12
+returns-in-66 c = rw c.in-66.is
 
-returns-13 : tie.Need-returns-13
+pub returns-in-67 : goal.returns-in-67
 unfolding hex_of turned_of bits_from
-returns-13 c = rw c.match.keys13
+returns-in-67 c = rw c.in-67.is
 
-returns-14 : tie.Need-returns-14
+pub returns-in-68 : goal.returns-in-68
 unfolding hex_of turned_of bits_from
-returns-14 c = rw c.match.keys14
+returns-in-68 c = rw c.in-68.is
 
-returns-15 : tie.Need-returns-15
+pub returns-in-69 : goal.returns-in-69
 unfolding hex_of turned_of bits_from
-returns-15 c = rw c.match.keys15
+returns-in-69 c = rw c.in-69.is
 
-returns-16 : tie.Need-returns-16
+pub returns-in-70 : goal.returns-in-70
 unfolding hex_of turned_of bits_from
-returns-16 c = rw c.match.keys16
+returns-in-70 c = rw c.in-70.is
 
-returns-17 : tie.Need-returns-17
+pub returns-in_default : goal.returns-in_default
 unfolding turned_of bits_from
-returns-17 c =
-    let b = c.before.args.b in
-    let r = c.match.rest in
+returns-in_default c =
+    let b = c.args.b in
+    let r = c.in_default.in_default-own.rest in
     let none : 16 ≡ digit_value b
     = none_value b
     (past 48 57 b r.0.0.0.0.0.0.0.0.0.0.0.0.0.0.0.1 (past 49 57 b r.0.0.0.0.0.0.0.0.0.0.0.0.0.0.1 (past 50 57 b r.0.0.0.0.0.0.0.0.0.0.0.0.0.1 (past 51 57 b r.0.0.0.0.0.0.0.0.0.0.0.0.1 (past 52 57 b r.0.0.0.0.0.0.0.0.0.0.0.1 (past 53 57 b r.0.0.0.0.0.0.0.0.0.0.1 (past 54 57 b r.0.0.0.0.0.0.0.0.0.1 (past 55 57 b r.0.0.0.0.0.0.0.0.1 (past 56 57 b r.0.0.0.0.0.0.0.1 (past 57 57 b r.0.0.0.0.0.0.1 (behind 58 57 b (lit< tt))))))))))))
     (past 65 70 b r.0.0.0.0.0.1 (past 66 70 b r.0.0.0.0.1 (past 67 70 b r.0.0.0.1 (past 68 70 b r.0.0.1 (past 69 70 b r.0.1 (past 70 70 b r.1 (behind 71 70 b (lit< tt)))))))) in
     let zero : hex_of b ≡ 0 = sym (value_low b) ∙ ap (λ (v : ℕ). v % 16) (sym none) in
     rw zero
-
-pub turned-digit-spec : {M : Type 1} → statement M
-turned-digit-spec =
-    tie.close
-    (tie.spec returns returns-2 returns-3 returns-4 returns-5 returns-6 returns-7 returns-8 returns-9 returns-10 returns-11 returns-12 returns-13 returns-14 returns-15 returns-16 returns-17)

@@ -1,0 +1,69 @@
+-- `text::bits_digit` meets its contract: one line a value. Assumes nothing.
+use Rattle.base.specs.Hex.{digit_of}
+use Rattle.text.specs.Coding.{bits_from, turned_of}
+use Rattle.text.proofs.CharLaws.{last_value}
+use Rattle.text.proofs.bits_digit.Goals as goal
+
+pub returns-in-0 : goal.returns-in-0
+unfolding digit_of turned_of bits_from
+returns-in-0 c = rw c.in-0.is
+
+pub returns-in-1 : goal.returns-in-1
+unfolding digit_of turned_of bits_from
+returns-in-1 c = rw c.in-1.is
+
+pub returns-in-2 : goal.returns-in-2
+unfolding digit_of turned_of bits_from
+returns-in-2 c = rw c.in-2.is
+
+pub returns-in-3 : goal.returns-in-3
+unfolding digit_of turned_of bits_from
+returns-in-3 c = rw c.in-3.is
+
+pub returns-in-4 : goal.returns-in-4
+unfolding digit_of turned_of bits_from
+returns-in-4 c = rw c.in-4.is
+
+pub returns-in-5 : goal.returns-in-5
+unfolding digit_of turned_of bits_from
+returns-in-5 c = rw c.in-5.is
+
+pub returns-in-6 : goal.returns-in-6
+unfolding digit_of turned_of bits_from
+returns-in-6 c = rw c.in-6.is
+
+pub returns-in-7 : goal.returns-in-7
+unfolding digit_of turned_of bits_from
+returns-in-7 c = rw c.in-7.is
+
+pub returns-in-8 : goal.returns-in-8
+unfolding digit_of turned_of bits_from
+returns-in-8 c = rw c.in-8.is
+
+pub returns-in-9 : goal.returns-in-9
+unfolding digit_of turned_of bits_from
+returns-in-9 c = rw c.in-9.is
+
+pub returns-in-10 : goal.returns-in-10
+unfolding digit_of turned_of bits_from
+returns-in-10 c = rw c.in-10.is
+
+pub returns-in-11 : goal.returns-in-11
+unfolding digit_of turned_of bits_from
+returns-in-11 c = rw c.in-11.is
+
+pub returns-in-12 : goal.returns-in-12
+unfolding digit_of turned_of bits_from
+returns-in-12 c = rw c.in-12.is
+
+pub returns-in-13 : goal.returns-in-13
+unfolding digit_of turned_of bits_from
+returns-in-13 c = rw c.in-13.is
+
+pub returns-in-14 : goal.returns-in-14
+unfolding digit_of turned_of bits_from
+returns-in-14 c = rw c.in-14.is
+
+pub returns-in_default : goal.returns-in_default
+unfolding digit_of turned_of bits_from
+returns-in_default c = rw (last_value c.args.bits c.in_default.in_default-own.rest)
