@@ -1,5 +1,6 @@
 // The phrase book (request R-6): whether one is well formed, and where a phrase stands in it.
 #![tactic(auto)]
+
 ghost use Rattle.std.specs.Prelude.{◌≡◌};
 ghost use Rattle.base.specs.Lines.{split};
 ghost use Rattle.phrases.specs.Book.{is_phrase, book_fault, is_decimal, is_two_digits, phrase_at, phrase_for};
