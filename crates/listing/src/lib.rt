@@ -1,5 +1,6 @@
 // A transmission as text, and the words of such a text (document 01, "Listings and reading").
 #![tactic(auto)]
+
 ghost use Rattle.std.specs.Prelude.{◌≡◌, cond, ◌*◌, ◌≤◌, length, drop, replicate};
 ghost use Rattle.base.specs.Lines.{split};
 ghost use Rattle.base.specs.Lists.{over};
