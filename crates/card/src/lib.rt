@@ -148,8 +148,7 @@ fn word_numbers(word: u32, a: Correction) -> CardWord
 }
 
 // Corrects a word.
-#[unsafe(no_mangle)]
-pub extern "C" fn card_correct(word: u32) -> CardWord
+pub fn card_correct(word: u32) -> CardWord
     ensures { result ≡ word_for word (answer word (nearest word)) }
 {
     let found = codeword::correct(word);
@@ -157,8 +156,7 @@ pub extern "C" fn card_correct(word: u32) -> CardWord
 }
 
 // Corrects a word with the slow engine.
-#[unsafe(no_mangle)]
-pub extern "C" fn card_correct_slowly(word: u32) -> CardWord
+pub fn card_correct_slowly(word: u32) -> CardWord
     ensures { result ≡ word_for word (answer word (nearest word)) }
 {
     let found = codeword::correct_slowly(word);
@@ -198,8 +196,7 @@ fn report_numbers(r: Report) -> CardReport
 }
 
 // Sends a job with its phrase book, which is empty where there is none, into lent words and slots.
-#[unsafe(no_mangle)]
-pub extern "C" fn card_send<'a>(
+pub fn card_send<'a>(
     job: &'a [u8],
     book: &'a [u8],
     words: &mut [u32],
@@ -243,8 +240,7 @@ fn listed_numbers(a: Listed) -> CardBytes
 }
 
 // Writes the listing of a job with its phrase book, which is empty where there is none, over the front of lent bytes.
-#[unsafe(no_mangle)]
-pub extern "C" fn card_list<'a>(job: &'a [u8], book: &'a [u8], out: &mut [u8]) -> CardBytes
+pub fn card_list<'a>(job: &'a [u8], book: &'a [u8], out: &mut [u8]) -> CardBytes
     ensures value { result ≡ bytes_for (listed_of (with_book job.now book.now) (length out.old)) }
     ensures out_after { out.new ≡ over out.old (bytes_listed (listed_of (with_book job.now book.now) (length out.old)) (listing_text (with_book job.now book.now))) }
 {
@@ -304,8 +300,7 @@ fn read_words(engine: Engine, words: &[u32], out: &mut [u8]) -> CardReading
 }
 
 // Words read with the fast engine.
-#[unsafe(no_mangle)]
-pub extern "C" fn card_read_words(words: &[u32], out: &mut [u8]) -> CardReading
+pub fn card_read_words(words: &[u32], out: &mut [u8]) -> CardReading
     ensures value { result ≡ reading_for (read_words words.now (length out.old)) }
     ensures out_after { out.new ≡ over out.old (lines_read (read_words words.now (length out.old)) words.now) }
 {
@@ -313,8 +308,7 @@ pub extern "C" fn card_read_words(words: &[u32], out: &mut [u8]) -> CardReading
 }
 
 // Words read with the slow engine.
-#[unsafe(no_mangle)]
-pub extern "C" fn card_read_words_slowly(words: &[u32], out: &mut [u8]) -> CardReading
+pub fn card_read_words_slowly(words: &[u32], out: &mut [u8]) -> CardReading
     ensures value { result ≡ reading_for (read_words words.now (length out.old)) }
     ensures out_after { out.new ≡ over out.old (lines_read (read_words words.now (length out.old)) words.now) }
 {
@@ -331,8 +325,7 @@ fn read_listing(engine: Engine, listing: &[u8], out: &mut [u8]) -> CardReading
 }
 
 // A listing read with the fast engine.
-#[unsafe(no_mangle)]
-pub extern "C" fn card_read_listing(listing: &[u8], out: &mut [u8]) -> CardReading
+pub fn card_read_listing(listing: &[u8], out: &mut [u8]) -> CardReading
     ensures value { result ≡ reading_for (read_listing listing.now (length out.old)) }
     ensures out_after { out.new ≡ over out.old (lines_read (read_listing listing.now (length out.old)) (words_of listing.now)) }
 {
@@ -340,8 +333,7 @@ pub extern "C" fn card_read_listing(listing: &[u8], out: &mut [u8]) -> CardReadi
 }
 
 // A listing read with the slow engine.
-#[unsafe(no_mangle)]
-pub extern "C" fn card_read_listing_slowly(listing: &[u8], out: &mut [u8]) -> CardReading
+pub fn card_read_listing_slowly(listing: &[u8], out: &mut [u8]) -> CardReading
     ensures value { result ≡ reading_for (read_listing listing.now (length out.old)) }
     ensures out_after { out.new ≡ over out.old (lines_read (read_listing listing.now (length out.old)) (words_of listing.now)) }
 {
@@ -371,8 +363,7 @@ fn following_numbers(r: Following) -> CardFollowing
 }
 
 // Writes the page lines of one identity in words, batches only, over the front of lent bytes.
-#[unsafe(no_mangle)]
-pub extern "C" fn card_follow_words(identity: u32, words: &[u32], out: &mut [u8]) -> CardFollowing
+pub fn card_follow_words(identity: u32, words: &[u32], out: &mut [u8]) -> CardFollowing
     ensures value { result ≡ following_for (follow_words identity words.now (length out.old)) }
     ensures out_after { out.new ≡ over out.old (lines_of (follow_words identity words.now (length out.old)) (pages_for identity words.now)) }
 {
@@ -381,8 +372,7 @@ pub extern "C" fn card_follow_words(identity: u32, words: &[u32], out: &mut [u8]
 }
 
 // The same of a listing.
-#[unsafe(no_mangle)]
-pub extern "C" fn card_follow_listing(
+pub fn card_follow_listing(
     identity: u32,
     listing: &[u8],
     out: &mut [u8],
@@ -395,8 +385,7 @@ pub extern "C" fn card_follow_listing(
 }
 
 // Writes the page lines of a recording's bits over the front of lent bytes.
-#[unsafe(no_mangle)]
-pub extern "C" fn card_receive(bits: &[u8], out: &mut [u8]) -> CardReceiving
+pub fn card_receive(bits: &[u8], out: &mut [u8]) -> CardReceiving
     ensures value { result ≡ receiving_for (receive_bits bits.now (length out.old)) }
     ensures out_after { out.new ≡ over out.old (lines_received (receive_bits bits.now (length out.old)) bits.now) }
 {
@@ -434,8 +423,7 @@ fn cover(coverage: Coverage, listing: &[u8]) -> CoverageThen
 }
 
 // Adds a listing to the report that the caller keeps.
-#[unsafe(no_mangle)]
-pub extern "C" fn card_coverage_add(listing: &[u8], coverage: &mut Coverage) -> CardRefusal
+pub fn card_coverage_add(listing: &[u8], coverage: &mut Coverage) -> CardRefusal
     ensures { (result ≡ adding_for (added_to coverage.old listing.now).answer) × (coverage.new ≡ (added_to coverage.old listing.now).coverage) }
 {
     let then = cover(*coverage, listing);
@@ -444,8 +432,7 @@ pub extern "C" fn card_coverage_add(listing: &[u8], coverage: &mut Coverage) -> 
 }
 
 // The rate of a frame, 0 to 7, or of sync, 8, in the report that the caller keeps.
-#[unsafe(no_mangle)]
-pub extern "C" fn card_coverage_rate(coverage: &Coverage, row: u32) -> Rate
+pub fn card_coverage_rate(coverage: &Coverage, row: u32) -> Rate
     ensures { result ≡ rate_of coverage.now row }
 {
     coverage::rate_of(*coverage, row)
@@ -496,8 +483,7 @@ fn begin<'a>(
 
 // Starts the sending of a job with its phrase book, which is empty where there is none, in the state that the caller keeps. The message
 // words are written where they lie.
-#[unsafe(no_mangle)]
-pub extern "C" fn card_start<'a>(job: &'a [u8], book: &'a [u8], state: &mut Sender) -> CardRefusal
+pub fn card_start<'a>(job: &'a [u8], book: &'a [u8], state: &mut Sender) -> CardRefusal
     ensures { (result ≡ refusal_for (started_of (with_book job.now book.now)).answer) × (state.new ≡ state_for (started_of (with_book job.now book.now)).answer (started_of (with_book job.now book.now)).state state.old) }
 {
     let cursor = state.cursor;
@@ -534,8 +520,7 @@ fn step_numbers(a: Answer) -> CardStep
 }
 
 // The next word, from the state that the caller keeps.
-#[unsafe(no_mangle)]
-pub extern "C" fn card_step(state: &mut Sender) -> CardStep
+pub fn card_step(state: &mut Sender) -> CardStep
     ensures { (result ≡ step_for (step_of state.old).answer) × (state.new ≡ (step_of state.old).state) }
 {
     let answer = sender::step(state);
