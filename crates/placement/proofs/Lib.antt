@@ -5,5 +5,6 @@ pub mod Placed
 pub mod Steps
 pub mod Examples
 pub mod Skips
+pub mod Head
 pub mod Sendable
 pub mod Placing

@@ -1,5 +1,6 @@
 // Placement of a job's pages in frames and batches: document 01, "Placement", with the pause after a message (R-3).
 #![tactic(auto)]
+
 ghost use Rattle.std.specs.Prelude.{◌≡◌, true, not, cond, ◌&&◌, map, pred, ◌*◌, ◌%◌, eqb, length, replicate};
 ghost use Rattle.base.specs.Lists.{over};
 ghost use Rattle.placement.specs.Placement.{is_sendable, job_of, may_start, state_at, batches, slots, batches_in, slots_in};
