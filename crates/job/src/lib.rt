@@ -1,6 +1,7 @@
 // Reads a job's page lines with its phrase book (document 01, "Page lines" and the table of refusals, with requests R-1, R-6 and R-11). An
 // empty book is none.
 #![tactic(auto)]
+
 ghost use Rattle.std.specs.Prelude.{◌≡◌, cond, [], ◌-◌, ◌*◌, ◌^◌, ◌≤◌, ◌<◌, length, take, drop, replicate};
 ghost use Rattle.base.specs.Hex.{is_hex, bytes_of};
 ghost use Rattle.base.specs.Leading.{leading};
@@ -575,7 +576,8 @@ fn print_text(out: &mut [u8], digits: &[u8])
         return;
     }
     out[0] = b' ';
-    bytes::copy(digits, &mut out[1..]);
+    let end = digits.len() + 1;
+    out[1..end].copy_from_slice(digits);
 }
 
 // The end of the line, over the front of the slice.

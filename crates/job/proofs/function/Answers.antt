@@ -1,0 +1,28 @@
+-- `job::function` meets its contract. Assumes nothing.
+use borrow.Author.Tests.{ne_eqb}
+use Rattle.job.specs.Line.{function_of, kind_sent}
+use Rattle.job.proofs.function.Goals as goal
+
+pub returns-in-4 : goal.returns-in-4
+unfolding function_of kind_sent
+returns-in-4 c = rw c.in-4.is
+
+pub returns-in-5 : goal.returns-in-5
+unfolding function_of kind_sent
+returns-in-5 c = rw c.in-5.is
+
+pub returns-in-6 : goal.returns-in-6
+unfolding function_of kind_sent
+returns-in-6 c = rw c.in-6.is
+
+pub returns-in-7 : goal.returns-in-7
+unfolding function_of kind_sent
+returns-in-7 c = rw c.in-7.is
+
+pub returns-in-9 : goal.returns-in-9
+unfolding function_of kind_sent
+returns-in-9 c = rw c.in-9.is
+
+pub returns-in_default : goal.returns-in_default
+unfolding function_of kind_sent
+returns-in_default c = let r = c.in_default.in_default-own.rest in simp (ne_eqb _ _ r.0.0.0.0.1, ne_eqb _ _ r.0.0.0.1, ne_eqb _ _ r.0.0.1, ne_eqb _ _ r.0.1, ne_eqb _ _ r.1)

@@ -1,0 +1,65 @@
+use Prim.Native.Nat.{◌≤◌}
+use mathlib.Core.Path.{sym, ◌∙◌}
+use native.Mathlib.Omega.{arith}
+use Rattle.base.proofs.LinesLaws.{end_after}
+use Rattle.job.specs.Submission.{with_book}
+use Rattle.job.specs.Pages.{pages_of}
+use Rattle.job.proofs.Laws.{judge_many, judge_unended, judge_line}
+use Rattle.job.proofs.Keeping.{keeping_none, keeping_more, keeping_all, answer_refused}
+use Rattle.job.proofs.read_lines.Goals.{After-line_end-end}
+use Rattle.job.proofs.read_lines.Goals as goal
+
+-- where the line ends
+ended : (c : After-line_end-end) → c.loop-at.at ≤ c.line_end-end.result
+ended c = rw c.line_end-end.ensures (end_after c.args.job.now c.loop-at.at)
+
+pub loop-at-init : goal.loop-at-init
+loop-at-init c = rw c.no_pages-pages.ensures (let a = c.args in keeping_none a.book.now a.job.now)
+
+pub returns-then-k-ge48 : goal.returns-then-k-ge48
+returns-then-k-ge48 c =
+    let a = c.args in
+    let b = a.book.now in
+    let job = a.job.now in
+    c.refused.ensures
+    ∙ answer_refused _ (pages_of (with_book job b)) (c.loop-at.invariant.answer ∙ judge_many b job c.loop-at.at c.loop-at.k (omega arith) (omega arith))
+
+pub returns-then-job-end : goal.returns-then-job-end
+returns-then-job-end c =
+    let a = c.args in
+    let b = a.book.now in
+    let job = a.job.now in
+    let q = c.line_end-end.ensures in
+    c.refused-then-job-end.ensures
+    ∙ answer_refused _ (pages_of (with_book job b)) (c.loop-at.invariant.answer ∙ judge_unended b job c.loop-at.at c.loop-at.k (omega arith) (omega arith) (omega arith))
+
+pub slice_bounds-read_line-count : goal.slice_bounds-read_line-count
+slice_bounds-read_line-count c = omega (arith, ended (goal.at.slice_bounds-read_line-count c).After-line_end-end)
+
+pub slice_bounds-read_line-start : goal.slice_bounds-read_line-start
+slice_bounds-read_line-start c = omega (arith, ended (goal.at.slice_bounds-read_line-start c).After-line_end-end)
+
+pub returns-in-Faulty : goal.returns-in-Faulty
+returns-in-Faulty c =
+    let a = c.args in
+    let b = a.book.now in
+    let job = a.job.now in
+    c.refused-in-Faulty.ensures
+    ∙ answer_refused _ (pages_of (with_book job b)) (c.loop-at.invariant.answer ∙ judge_line b job c.loop-at.at c.loop-at.k c.line_end-end.ensures (omega arith) (omega arith)
+    (sym c.in-Faulty.is ∙ c.read_line.ensures))
+
+pub loop-at-smaller : goal.loop-at-smaller
+loop-at-smaller c = omega (arith, ended (goal.at.loop-at-smaller c).After-line_end-end)
+
+pub loop-at-preserved : goal.loop-at-preserved
+loop-at-preserved c =
+    let a = c.args in
+    let b = a.book.now in
+    let job = a.job.now in
+    keeping_more b job c.loop-at.at c.loop-at.k c.loop-at.invariant c.line_end-end.ensures (omega arith) (omega arith)
+    (sym c.read_line.ensures ∙ c.in-Good.is)
+
+pub returns : goal.returns
+returns c =
+    let a = c.args in
+    keeping_all a.book.now a.job.now c.loop-at.at c.loop-at.k c.loop-at.invariant c.loop-at-test.false
