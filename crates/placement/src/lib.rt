@@ -41,6 +41,7 @@ fn unmark(marks: &mut [u32])
 
 // Whether a page with this mark, frame and number of message codewords may start in this slot: in a pause only a tone may. The rule has
 // this one home; the library's placement and its steps ask it.
+#[tactic(auto, unfolding(crate::specs::Placement::may_start))]
 pub fn may_start(mark: u32, frame: u8, words: u32, pause: bool, slot: u32) -> bool
     ensures { result ≡ may_start mark frame words pause slot }
 {
@@ -173,6 +174,7 @@ fn place_exact(frames: &[u8], words: &[u32], out: &mut [u32]) -> u32
 // Places a job, given by its pages' frames and numbers of message codewords: the slots of the addresses go to the front of `out`, in
 // the job's order, and the answer is the number of batches, which is 1 or more. Where the job cannot be sent, or `out` has fewer places
 // than the job has pages, the answer is 0 and nothing is written.
+#[tactic(auto, using(crate::proofs::Placing::no_room, crate::proofs::Placing::unsendable, crate::proofs::Placing::placed_in))]
 pub fn place(frames: &[u8], words: &[u32], out: &mut [u32]) -> u32
     ensures value { result ≡ batches_in frames.now words.now (length out.old) }
     ensures out_after { out.new ≡ over out.old (slots_in frames.now words.now (length out.old)) }
