@@ -1,5 +1,6 @@
 // A job's words: sending a job into lent slices (document 01, "Placement").
 #![tactic(auto)]
+
 ghost use Rattle.std.specs.Prelude.{◌≡◌, ◌+◌, ◌≤◌, ◌<◌, length};
 ghost use Rattle.base.specs.Lists.{over, tab};
 ghost use Rattle.job.specs.Line.{kind_sent};
