@@ -1,7 +1,7 @@
 -- How the lines of a listing go on, one at a time, and the numbers of a well-formed one. Assumes nothing.
 use Prim.Native.Nat.{ℕ, zero, suc, ◌+◌, ◌-◌, ◌*◌, ◌/◌, ◌%◌, ◌≤◌, ◌<◌}
 use mathlib.Core.Path.{◌≡◌, refl, ap, sym, ◌∙◌}
-use mathlib.Core.List.{List, [], ◌++◌}
+use mathlib.Core.List.{List, [], ◌++◌, append-nil}
 use mathlib.Core.Bool.{Bool, true, false, cond, ◌&&◌}
 use mathlib.Core.Logic.{⊎_elim}
 use native.Mathlib.Nat.{eq-or-lt_of_le}
@@ -165,6 +165,14 @@ pub met_full : (q : ℕ) (ls : Lines) → q ≡ 2700 → words_met q ls ≡ []
 unfolding words_met
 met_full q (behind t) e = refl
 met_full q (line l ls) e = rw (eq-eqb q 2700 e, and_false (is_due q l))
+
+-- behind 300 batches, where byte at is reached and done are the words up to there
+pub batches_full_at : (p q : ℕ) (s : List ℕ) (at : ℕ) → q ≡ 2700 → at < length s
+    → batches p q (split (drop at s)) ≡ Declined (cond (has_one (line_from s at)) (TooMany (p + q + 1)) (Malformed (p + q + 1)))
+batches_full_at p q s at e h = batches_full p q (drop at s) e (omega (arith, length-drop at s))
+
+pub met_full_behind : (done : List ℕ) (q : ℕ) (ls : Lines) → q ≡ 2700 → done ++ words_met q ls ≡ done
+met_full_behind done q ls e = ap (λ ws. done ++ ws) (met_full q ls e) ∙ append-nil done
 
 pub met_end : (q : ℕ) (s : List ℕ) (at : ℕ) → length s ≤ at → words_met q (split (drop at s)) ≡ []
 unfolding words_met

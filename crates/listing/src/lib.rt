@@ -182,6 +182,7 @@ fn fault_behind(s: &[u8], at: usize, line: usize) -> Fault
 }
 
 // Reads the batches behind p preamble lines, up to the first line that is not right, and writes their words.
+#[tactic(auto, using(crate::proofs::BatchLaws::batches_full_at, crate::proofs::BatchLaws::met_full_behind))]
 fn read_batches(s: &[u8], p: usize, words: &mut [u32]) -> Listing
     requires { (p ≤ 36) × (18 * p ≤ length s.now) × (5100 ≤ length words.old) }
     ensures value { result ≡ batches p 0 (split (drop (18 * p) s.now)) }
@@ -217,6 +218,7 @@ fn read_batches(s: &[u8], p: usize, words: &mut [u32]) -> Listing
 
 // Reads a text as a listing. The words of the batches are written over the front of the array as they are read, also those before a
 // fault. Each digit is read once.
+#[tactic(auto, using(crate::proofs::BatchLaws::listing_short, crate::proofs::BatchLaws::decoded_short))]
 fn read_text(s: &[u8], words: &mut [u32; 5100]) -> Listing
     ensures value { result ≡ listing_of s.now }
     ensures words_after { words.new ≡ over words.old (words_decoded s.now) }

@@ -1,16 +1,14 @@
 use Prim.Native.Nat.{ℕ, ◌+◌, ◌-◌, ◌≤◌, ◌<◌}
-use mathlib.Core.Path.{◌≡◌, ap, sym, ◌∙◌}
+use mathlib.Core.Path.{◌≡◌, sym, ◌∙◌}
 use mathlib.Core.List.{List}
 use mathlib.Core.Bool.{true, false}
 use native.Mathlib.Omega.{arith}
 use borrow.Author.Rules.{rules}
 use lib.ListN.{length, drop, length-drop}
 use lib.Seq.{length-take-le}
-use Rattle.base.specs.Lines.{split}
 use Rattle.listing.specs.Listing.{is_due}
 use Rattle.listing.specs.Scan.{line_from}
-use Rattle.listing.specs.declared.Listing.TheVariants.{Declined}
-use Rattle.listing.proofs.BatchLaws.{batches_full, batches_stray, batches_end, met_full, met_end, whole_yes, whole_none, whole_part, below_limit}
+use Rattle.listing.proofs.BatchLaws.{batches_stray, batches_end, met_end, whole_yes, whole_none, whole_part, below_limit}
 use Rattle.listing.proofs.Decoding.{begun, same_size, fits, read_on, met, read_none, none_read, some_read}
 use Rattle.listing.proofs.read_batches.Goals.{After-read_line-n, At-loop-at, Else-n-eq0}
 use Rattle.listing.proofs.read_batches.Goals as goal
@@ -68,34 +66,28 @@ overflow_add-line-in-loop-at c = omega (arith, c.loop-at.invariant.few)
 pub fault_behind-requires : goal.fault_behind-requires
 fault_behind-requires c = c.loop-at.invariant.inside
 
-pub shape_of-words-then-q-eq2700 : goal.shape_of-words-then-q-eq2700
-shape_of-words-then-q-eq2700 c = size (goal.at.shape_of-words-then-q-eq2700 c).At-loop-at
-
-pub returns-then-q-eq2700 : goal.returns-then-q-eq2700
-returns-then-q-eq2700 c =
-    let l = (goal.at.returns-then-q-eq2700 c).At-loop-at in
-    let last = c.if-q-eq2700.true in
-    let full = batches_full (p l) (q l) (d l) last (more l c.loop-at-test.true) in
-    record {
-      value = sym (c.loop-at.invariant.left ∙ full ∙ ap Declined (sym c.fault_behind.ensures));
-      words_after = met (room l) c.loop-at.invariant (met_full (q l) (split (d l)) last);
-    }
-
 pub offset_bounds-words-k : goal.offset_bounds-words-k
 offset_bounds-words-k c = omega (arith, c.loop-at.invariant.few, c.loop-at.invariant.count)
 
 pub slice_bounds-read_line-count : goal.slice_bounds-read_line-count
-slice_bounds-read_line-count c = omega (arith, fits (room (goal.at.slice_bounds-read_line-count c).At-loop-at) c.loop-at.invariant c.if-q-eq2700.false)
+slice_bounds-read_line-count c =
+    let few : c.loop-at.q ≡ 2700 → ⊥ = λ e. omega arith in
+    omega (arith, fits (room (goal.at.slice_bounds-read_line-count c).At-loop-at) c.loop-at.invariant few)
 
 pub slice_bounds-read_line-start : goal.slice_bounds-read_line-start
-slice_bounds-read_line-start c = let two = fits (room (goal.at.slice_bounds-read_line-start c).At-loop-at) c.loop-at.invariant c.if-q-eq2700.false in search rules
+slice_bounds-read_line-start c =
+    let few : c.loop-at.q ≡ 2700 → ⊥ = λ e. omega arith in
+    let two = fits (room (goal.at.slice_bounds-read_line-start c).At-loop-at) c.loop-at.invariant few in search rules
 
 pub slice_bounds-read_line-end : goal.slice_bounds-read_line-end
-slice_bounds-read_line-end c = let two = fits (room (goal.at.slice_bounds-read_line-end c).At-loop-at) c.loop-at.invariant c.if-q-eq2700.false in search rules
+slice_bounds-read_line-end c =
+    let few : c.loop-at.q ≡ 2700 → ⊥ = λ e. omega arith in
+    let two = fits (room (goal.at.slice_bounds-read_line-end c).At-loop-at) c.loop-at.invariant few in search rules
 
 pub read_line-n-requires : goal.read_line-n-requires
 read_line-n-requires c =
-    let two = fits (room (goal.at.read_line-n-requires c).At-loop-at) c.loop-at.invariant c.if-q-eq2700.false in
+    let few : c.loop-at.q ≡ 2700 → ⊥ = λ e. omega arith in
+    let two = fits (room (goal.at.read_line-n-requires c).At-loop-at) c.loop-at.invariant few in
     let k = c.loop-at.k in
     let words = c.loop-at.words in
     (c.loop-at.invariant.inside, omega (arith, length-take-le (length words - k) (drop k words) (omega (arith, length-drop k words)), length-drop k words))
@@ -107,18 +99,20 @@ shape_of-words-then-n-eq0 c =
 
 pub returns-then-n-eq0 : goal.returns-then-n-eq0
 returns-then-n-eq0 c =
+    let few : c.loop-at.q ≡ 2700 → ⊥ = λ e. omega arith in
     let l = (goal.at.returns-then-n-eq0 c).At-loop-at in
     let other = stray (goal.at.returns-then-n-eq0 c).After-read_line-n c.if-n-eq0.true in record {
       value = sym (c.loop-at.invariant.left ∙ batches_stray (p l) (q l) (d l) other (more l c.loop-at-test.true));
-      words_after = read_none (room l) c.loop-at.invariant c.if-q-eq2700.false other c.read_line-n.ensures.words_after;
+      words_after = read_none (room l) c.loop-at.invariant few other c.read_line-n.ensures.words_after;
     }
 
 -- behind a line that is read
 pub loop-at-preserved : goal.loop-at-preserved
 loop-at-preserved c =
+    let few : c.loop-at.q ≡ 2700 → ⊥ = λ e. omega arith in
     let l = (goal.at.loop-at-preserved c).At-loop-at in
     let right = due (goal.at.loop-at-preserved c).After-read_line-n c.if-n-eq0.false in
-    read_on (room l) c.loop-at.invariant c.if-q-eq2700.false right c.read_line-n.ensures.value c.read_line-n.ensures.words_after
+    read_on (room l) c.loop-at.invariant few right c.read_line-n.ensures.value c.read_line-n.ensures.words_after
 
 pub overflow_mul-at-in-loop-at : goal.overflow_mul-at-in-loop-at
 overflow_mul-at-in-loop-at c = omega (arith, (loop-at-preserved (goal.at.overflow_mul-at-in-loop-at c).Else-n-eq0).inside)
@@ -133,7 +127,9 @@ pub overflow_add-q : goal.overflow_add-q
 overflow_add-q c = omega (arith, c.loop-at.invariant.few)
 
 pub loop-at-smaller : goal.loop-at-smaller
-loop-at-smaller c = omega (arith, below_limit (q (goal.at.loop-at-smaller c).At-loop-at) c.loop-at.invariant.few c.if-q-eq2700.false)
+loop-at-smaller c =
+    let few : c.loop-at.q ≡ 2700 → ⊥ = λ e. omega arith in
+    omega (arith, below_limit (q (goal.at.loop-at-smaller c).At-loop-at) c.loop-at.invariant.few few)
 
 pub shape_of-words-then-q-eq0 : goal.shape_of-words-then-q-eq0
 shape_of-words-then-q-eq0 c = size (goal.at.shape_of-words-then-q-eq0 c).At-loop-at

