@@ -1,5 +1,6 @@
 // A job with its phrase book straight to its listing: what the sending program does with its input.
 #![tactic(auto)]
+
 ghost use Rattle.std.specs.Prelude.{◌≡◌, ◌≤◌, length, take};
 ghost use Rattle.base.specs.Lists.{over};
 ghost use Rattle.job.specs.Submission.{with_book};
