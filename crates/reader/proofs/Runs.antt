@@ -1,5 +1,5 @@
 -- Runs of slots that are heard in one go. Assumes nothing.
-use mathlib.Core.Path.{◌≡◌, refl, sym, ap, subst, ◌∙◌}
+use mathlib.Core.Path.{◌≡◌, refl, sym, subst}
 use mathlib.Core.Bool.{Bool, true, false, cond}
 use mathlib.Core.List.{List}
 use mathlib.Core.Logic.{⊎_elim}
@@ -10,7 +10,7 @@ use lib.Dec.{eqb, ltb}
 use lib.ListN.{length, get_or}
 use borrow.Author.Tests.{eqb-true, eqb-false, ltb-true, ltb-false}
 use Rattle.base.proofs.Bools.{either}
-use Rattle.reader.specs.Symbols.{said, state_by}
+use Rattle.reader.specs.Symbols.{state_by}
 use Rattle.reader.specs.Progress.{Run, Messages, Idles, Quiet, with_messages, Kept}
 use Rattle.reader.specs.declared.Progress.{Progress}
 use Rattle.reader.proofs.Keeping.{closed_none, idle_next, orphan_next, group_next}

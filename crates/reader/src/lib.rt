@@ -1,5 +1,6 @@
 // Words or a listing to page lines and a report (document 01, "Listings and reading").
 #![tactic(auto)]
+
 ghost use Rattle.std.specs.Prelude.{◌≡◌, ◌+◌, ◌*◌, ◌/◌, ◌≤◌, ◌<◌, length};
 ghost use Rattle.base.specs.Lists.{over};
 ghost use Rattle.codeword.specs.Nearest.{nearest};
@@ -504,7 +505,7 @@ fn read_into(
     if out.len() < n {
         return Reading::NoRoom;
     }
-    bytes::copy(&lines[..n], out);
+    out[..n].copy_from_slice(&lines[..n]);
     Reading::Read {
         pages: p.pages,
         lost: p.lost,

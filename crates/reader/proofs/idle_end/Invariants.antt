@@ -1,0 +1,11 @@
+-- `reader::idle_end` meets its contract: all slots passed hold idle. Assumes nothing.
+use Prim.Native.Nat.{◌-◌}
+use lib.ListN.{length}
+use Rattle.reader.specs.Progress.{Idles}
+use Rattle.reader.proofs.idle_end.Given as goal
+
+abbrev pub invariant-loop-e : goal.invariant-loop-e
+invariant-loop-e l = Idles l.symbols l.s l.e
+
+abbrev pub decreases-loop-e : goal.decreases-loop-e
+decreases-loop-e l = length l.symbols - l.e
