@@ -7,8 +7,6 @@ pub mod Planned
 pub mod Held
 pub mod Iterated
 pub mod Elem
-pub mod Lies
-pub mod Lent
 pub mod WordLaws
 pub mod Laid
 pub mod Begun

@@ -27,8 +27,8 @@ use Rattle.sender.specs.declared.Stepped.{Stepped}
 use Rattle.sender.specs.declared.Answer.{Answer}
 use Rattle.sender.specs.declared.Answer.TheVariants.{Word, Done, Refused}
 use Rattle.sender.specs.Answer.{number_of}
-use Rattle.sender.specs.Step.{run_wrong, declined, sync_due, finished, in_batch, from_sound, step_of}
-use Rattle.sender.specs.Start.{words_of, pages_from, start_of, no_state, state_by, started_of}
+use Rattle.sender.specs.Step.{run_wrong, declined, sync_due, finished, in_batch, from_sound, state_from, step_of}
+use Rattle.sender.specs.Start.{words_of, pages_from, start_of, no_state, state_by, started_of, words_by}
 use Rattle.sender.specs.Stepping.{StartCall, by_value, in_place, StepCall, Calls, none, more, Stepping, JobStepping, NoStepping}
 use Rattle.sender.proofs.Begun.{fit_of, word_is, count_is}
 use Rattle.sender.proofs.Iterated.{after, gives_word, past_end}
@@ -64,8 +64,12 @@ pub start_is : (s : Submission) (a : JobAnswer) (t : Sender) → StartCall s a t
 unfolding started_of
 start_is s a t (by_value r e) =
     (ap (λ (x : Started). x.answer) e, λ n ok. ap (λ (x : Started). x.state) e ∙ ap (λ (x : JobAnswer). state_by x (sendings_of s)) ok)
-start_is s a t (in_place r old new e f) =
-    (ap (λ (x : Opening). x.answer) e, λ n ok. rw (e, f, ok))
+start_is s a t (in_place r old new e f) = (
+  ap (λ (x : Opening). x.answer) e,
+  λ n ok.
+      ap₂ (λ (x : Opening) (words : List ℕ). state_from x.pages x.sent x.cursor words) e f
+      ∙ ap (λ (x : JobAnswer). let z = state_by x (sendings_of s) in state_from z.pages z.sent z.cursor (words_by x z.words old)) ok,
+)
 
 -- ---- the answers
 

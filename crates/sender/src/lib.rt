@@ -1,5 +1,6 @@
 // The sender: a job's words one at a time, from a state that the caller keeps (document 01, "Placement").
 #![tactic(auto)]
+
 ghost use Rattle.std.specs.Prelude.{◌≡◌, false, ◌&&◌, ◌||◌, List, ℕ, ◌+◌, ◌≤◌, eqb, leb, ltb, length, get_or};
 ghost use Rattle.base.specs.Lists.{over, tab};
 ghost use Rattle.base.specs.Search.{least};
