@@ -1,5 +1,6 @@
 // One identity followed (document 02, R-4): the page lines that the reader prints for it, without looking at most of the words.
 #![tactic(auto)]
+
 ghost use Rattle.std.specs.Prelude.{◌≡◌, ◌%◌, ◌*◌, ◌≤◌, ◌<◌, length};
 ghost use Rattle.base.specs.Lists.{over};
 ghost use Rattle.codeword.specs.Nearest.{nearest};
@@ -227,7 +228,7 @@ fn follow_into(
     if out.len() < n {
         return Following::Declined(Refusal::NoRoom);
     }
-    bytes::copy(&lines[..n], out);
+    out[..n].copy_from_slice(&lines[..n]);
     Following::Followed {
         lines: p.lines,
         bytes: n,
