@@ -1,6 +1,7 @@
 -- The stretches read so far, one at a time. Assumes nothing.
 use mathlib.Core.Path.{◌≡◌, refl, sym, ap, ap₂, subst, ◌∙◌}
 use mathlib.Core.List.{List, [], ◌∷◌, ◌++◌}
+use mathlib.Core.Logic.{⊎_elim}
 use Prim.Native.Nat.{ℕ, ◌+◌, ◌-◌, ◌*◌, ◌≤◌, ◌<◌}
 use native.Mathlib.Omega.{arith}
 use lib.ListN.{length, take, drop, length-drop}
@@ -8,6 +9,7 @@ use lib.Seq.{take_at}
 use borrow.Author.Tests.{lt-ltb, le-ltb}
 use Rattle.base.specs.Lists.{over}
 use Rattle.base.proofs.ListLaws.{to_end, over_behind, over_length}
+use Rattle.base.proofs.SearchLaws.{le_or_lt}
 use Rattle.reader.specs.Reading.{Heard}
 use Rattle.reader.specs.Lines.{lines_heard}
 use Rattle.reader.proofs.Laws.{lines_append}
@@ -104,11 +106,6 @@ module _ (s old : List ℕ) where
       unfolding batches_found
       counted = ap (λ (rs : List Stretch). t.batches + batches_found rs) (sym next_found) ∙ x.count
 
-      -- a 301st batch is in it
-      pub so_far_many : (room : ℕ) → length s ≤ 65536 → 300 < t.batches + b → Declined TooMany ≡ receive_bits s room
-      unfolding receive_bits
-      so_far_many room short many = rw (le-ltb 65536 (length s) short, lt-ltb 300 (batches_found (stretches_of s)) (omega (arith, counted)))
-
       module _ (few : t.batches + b ≤ 300) (wide : 48300 ≤ length old) where
         so_far_length : length lines ≡ length old
         so_far_length = ap length x.is ∙ over_length old (lines_heard x.heard.pages) (omega (arith, size, x.most.bytes, x.few))
@@ -158,3 +155,20 @@ module _ (s old : List ℕ) where
                     over_behind old (lines_heard x.heard.pages) (lines_heard h.pages) t.bytes x.is (sym size) so_far_inside w
                     ∙ ap (over old) (sym (lines_append x.heard.pages h.pages));
               })
+
+  -- no more batches are reported and counted next than there are
+  pub so_far_counted : (p : ℕ) (t : Totals) {lines : List ℕ} → SoFar s old p t lines → t.batches + batches_from s (hunt_from s p) ≤ batches_found (stretches_of s)
+  so_far_counted p t x =
+      let q = hunt_from s p in
+      let b = batches_from s q in
+      ⊎_elim (λ (l : 1 ≤ b). omega (arith, counted p t x q b refl refl l)) (λ (l : b < 1). omega (arith, x.count)) (le_or_lt 1 b)
+
+-- a 301st batch is found
+pub too_many : (s : List ℕ) (room : ℕ) → length s ≤ 65536 → 300 < batches_found (stretches_of s) → Declined TooMany ≡ receive_bits s room
+unfolding receive_bits
+too_many s room short many = rw (le-ltb 65536 (length s) short, lt-ltb 300 (batches_found (stretches_of s)) many)
+
+-- where a recording is declined no lines are written
+pub none_written : (lines : List ℕ) → take (totals_of 0 nothing).bytes lines ≡ []
+unfolding lines_heard
+none_written lines = refl

@@ -1,5 +1,6 @@
 // The radio's bits to page lines and a report (document 02, R-10).
 #![tactic(auto)]
+
 ghost use Rattle.std.specs.Prelude.{◌≡◌, ◌+◌, ◌*◌, ◌≤◌, ◌<◌, length, get_or, take};
 ghost use Rattle.base.specs.Lists.{over, tab};
 ghost use Rattle.reader.specs.Lines.{lines_heard};
@@ -200,6 +201,7 @@ fn add(t: Totals, u: Totals) -> Totals
 
 // Receives a recording: the lines of its pages go over the front of the lent lines, for which there is room. The words are room for
 // those of a stretch, which is lent once, since to clear it would take longer than to read a short one.
+#[tactic(auto, using(crate::proofs::SoFar::too_many, crate::proofs::SoFar::none_written))]
 fn receive_all(bits: &[u8], words: &mut [u32], lines: &mut [u8]) -> Receiving
     requires { (length bits.now ≤ 65536) × (5100 ≤ length words.old) × (48300 ≤ length lines.old) }
     ensures value { result ≡ receive_bits bits.now (length lines.old) }
@@ -235,6 +237,7 @@ fn blank_lines() -> [u8; 48300] {
 
 // Receives a recording's bits, eight to a byte, the first on top: the lines of the pages go to the front of the bytes, and what stands
 // behind them keeps its value.
+#[tactic(auto, using(crate::proofs::RoomLaws::too_long))]
 pub fn receive(bits: &[u8], out: &mut [u8]) -> Receiving
     ensures value { result ≡ receive_bits bits.now (length out.old) }
     ensures out_after { out.new ≡ over out.old (lines_received result bits.now) }
@@ -251,7 +254,7 @@ pub fn receive(bits: &[u8], out: &mut [u8]) -> Receiving
     if out.len() < n {
         return Receiving::Declined(Refusal::NoRoom);
     }
-    bytes::copy(&lines[..n], out);
+    out[..n].copy_from_slice(&lines[..n]);
     Receiving::Received(t)
 }
 
