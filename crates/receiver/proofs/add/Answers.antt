@@ -1,6 +1,5 @@
 -- `receiver::add` meets its contract. Assumes nothing.
 use native.Mathlib.Omega.{arith}
-use borrow.Author.Rules.{rules}
 use Rattle.receiver.proofs.add.Goals as goal
 
 pub overflow_add-result-6 : goal.overflow_add-result-6

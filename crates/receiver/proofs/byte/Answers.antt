@@ -1,7 +1,6 @@
 -- `receiver::byte` meets its contract. Assumes nothing.
 use mathlib.Core.Path.{refl}
 use native.Mathlib.Omega.{arith}
-use borrow.Author.Rules.{rules}
 use Rattle.receiver.proofs.byte.Goals as goal
 
 pub overflow_cast-result : goal.overflow_cast-result

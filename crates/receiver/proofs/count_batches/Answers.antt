@@ -1,11 +1,7 @@
-use mathlib.Core.Path.{◌≡◌, sym, ap, ◌∙◌}
-use mathlib.Core.Bool.{true}
-use Prim.Native.Nat.{ℕ, ◌+◌, ◌-◌, ◌*◌, ◌≤◌, ◌<◌}
+use mathlib.Core.Path.{sym, ap, ◌∙◌}
+use Prim.Native.Nat.{◌+◌, ◌*◌}
 use native.Mathlib.Omega.{arith}
 use borrow.Author.Count.{below_none, below_more}
-use borrow.Author.Rules.{rules}
-use borrow.Author.Tests.{not-true, not-false}
-use Rattle.receiver.specs.Bits.{bit_count}
 use Rattle.receiver.specs.Stretches.{is_batch}
 use Rattle.receiver.proofs.StretchLaws.{batch_is, batch_not, batch_late, tested, batches_is}
 use Rattle.receiver.proofs.count_batches.Goals as goal

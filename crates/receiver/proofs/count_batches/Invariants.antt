@@ -1,14 +1,9 @@
 -- `receiver::count_batches` meets its contract: the batches counted stand one behind the other. Assumes nothing.
-use mathlib.Core.Path.{◌≡◌, sym, ap, ◌∙◌}
+use mathlib.Core.Path.{◌≡◌}
 use mathlib.Core.Bool.{true}
 use Prim.Native.Nat.{ℕ, ◌+◌, ◌-◌, ◌*◌, ◌≤◌, ◌<◌}
-use native.Mathlib.Omega.{arith}
-use borrow.Author.Count.{below_none, below_more}
-use borrow.Author.Rules.{rules}
-use borrow.Author.Tests.{not-true, not-false}
 use Rattle.receiver.specs.Bits.{bit_count}
 use Rattle.receiver.specs.Stretches.{is_batch}
-use Rattle.receiver.proofs.StretchLaws.{batch_is, batch_not, batch_late, tested, batches_is}
 use Rattle.receiver.proofs.count_batches.Given as goal
 
 abbrev pub invariant-loop-e : goal.invariant-loop-e

@@ -1,9 +1,8 @@
-use mathlib.Core.Path.{◌≡◌, refl, ◌∙◌}
-use Prim.Native.Nat.{◌+◌, ◌-◌, ◌*◌, ◌≤◌}
+use mathlib.Core.Path.{refl, ◌∙◌}
+use Prim.Native.Nat.{◌+◌, ◌*◌}
 use native.Mathlib.Omega.{arith}
 use lib.ListN.{length, length-set}
-use Rattle.base.specs.Lists.{tab}
-use Rattle.base.proofs.ListLaws.{filled, tab_turn, tab_full}
+use Rattle.base.proofs.ListLaws.{tab_turn, tab_full}
 use Rattle.receiver.specs.Bits.{word_from}
 use Rattle.receiver.proofs.fill_words.Goals as goal
 

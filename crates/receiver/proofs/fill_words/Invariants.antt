@@ -1,10 +1,9 @@
 -- `receiver::fill_words` meets its contract: the words so far stand in the slice. Assumes nothing.
-use mathlib.Core.Path.{◌≡◌, refl, ◌∙◌}
+use mathlib.Core.Path.{◌≡◌}
 use Prim.Native.Nat.{◌+◌, ◌-◌, ◌*◌, ◌≤◌}
-use native.Mathlib.Omega.{arith}
-use lib.ListN.{length, length-set}
+use lib.ListN.{length}
 use Rattle.base.specs.Lists.{tab}
-use Rattle.base.proofs.ListLaws.{filled, tab_turn, tab_full}
+use Rattle.base.proofs.ListLaws.{filled}
 use Rattle.receiver.specs.Bits.{word_from}
 use Rattle.receiver.proofs.fill_words.Given as goal
 

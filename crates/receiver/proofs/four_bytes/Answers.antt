@@ -1,5 +1,4 @@
 -- `receiver::four_bytes` meets its contract. Assumes nothing.
-use borrow.Author.Rules.{rules}
 use Rattle.receiver.proofs.BitLaws.{four_bits}
 use Rattle.receiver.proofs.four_bytes.Goals as goal
 

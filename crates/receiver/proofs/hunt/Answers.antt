@@ -1,10 +1,6 @@
-use mathlib.Core.Path.{◌≡◌, sym, ap₂, ◌∙◌}
-use mathlib.Core.Bool.{false}
-use Prim.Native.Nat.{ℕ, ◌+◌, ◌-◌, ◌*◌, ◌%◌, ◌≤◌, ◌<◌}
+use mathlib.Core.Path.{sym, ap₂, ◌∙◌}
+use Prim.Native.Nat.{ℕ, ◌+◌, ◌*◌, ◌%◌}
 use native.Mathlib.Omega.{arith}
-use borrow.Author.Rules.{rules}
-use Rattle.receiver.specs.Bits.{bit_count, word_from}
-use Rattle.receiver.specs.Stretches.{is_batch}
 use Rattle.receiver.proofs.BitLaws.{bit_small, word_next}
 use Rattle.receiver.proofs.StretchLaws.{batch_is, batch_not, tested, hunt_is, hunt_none, passed_more}
 use Rattle.receiver.proofs.hunt.Goals as goal

@@ -1,13 +1,9 @@
 -- `receiver::hunt` meets its contract: the positions passed have no batch, and the word at hand is that of the position reached. Assumes nothing.
-use mathlib.Core.Path.{◌≡◌, sym, ap₂, ◌∙◌}
+use mathlib.Core.Path.{◌≡◌}
 use mathlib.Core.Bool.{false}
-use Prim.Native.Nat.{ℕ, ◌+◌, ◌-◌, ◌*◌, ◌%◌, ◌≤◌, ◌<◌}
-use native.Mathlib.Omega.{arith}
-use borrow.Author.Rules.{rules}
+use Prim.Native.Nat.{ℕ, ◌-◌, ◌≤◌, ◌<◌}
 use Rattle.receiver.specs.Bits.{bit_count, word_from}
 use Rattle.receiver.specs.Stretches.{is_batch}
-use Rattle.receiver.proofs.BitLaws.{bit_small, word_next}
-use Rattle.receiver.proofs.StretchLaws.{batch_is, batch_not, tested, hunt_is, hunt_none, passed_more}
 use Rattle.receiver.proofs.hunt.Given as goal
 
 abbrev pub invariant-loop-q : goal.invariant-loop-q

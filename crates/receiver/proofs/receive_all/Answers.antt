@@ -1,11 +1,10 @@
-use mathlib.Core.Path.{◌≡◌, refl}
-use Prim.Native.Nat.{◌+◌, ◌-◌, ◌≤◌}
+use mathlib.Core.Path.{refl}
+use Prim.Native.Nat.{◌≤◌}
 use native.Mathlib.Omega.{arith}
 use lib.ListN.{length}
 use borrow.Author.Rules.{rules}
-use Rattle.receiver.specs.Bits.{bit_count}
 use Rattle.receiver.proofs.StretchLaws.{hunt_inside}
-use Rattle.receiver.proofs.SoFar.{SoFar, so_far_none, so_far_on, so_far_behind, so_far_end, so_far_lines, so_far_counted, so_far_inside, so_far_ahead, so_far_addable, so_far_next}
+use Rattle.receiver.proofs.SoFar.{so_far_none, so_far_on, so_far_behind, so_far_end, so_far_lines, so_far_counted, so_far_inside, so_far_ahead, so_far_addable, so_far_next}
 use Rattle.receiver.proofs.receive_all.Goals.{Else-b-eq0}
 use Rattle.receiver.proofs.receive_all.Goals as goal
 

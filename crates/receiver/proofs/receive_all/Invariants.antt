@@ -1,14 +1,10 @@
 -- `receiver::receive_all` meets its contract: before each hunt the stretches so far are reported. Assumes nothing.
-use mathlib.Core.Path.{◌≡◌, refl}
+use mathlib.Core.Path.{◌≡◌}
 use Prim.Native.Nat.{◌+◌, ◌-◌, ◌≤◌}
-use native.Mathlib.Omega.{arith}
 use lib.ListN.{length}
-use borrow.Author.Rules.{rules}
-use Rattle.reader.specs.Lines.{lines_heard}
 use Rattle.receiver.specs.Bits.{bit_count}
 use Rattle.receiver.specs.Stretches.{hunt_from, batches_from, stretches_of, batches_found}
-use Rattle.receiver.proofs.StretchLaws.{hunt_inside}
-use Rattle.receiver.proofs.SoFar.{SoFar, so_far_none, so_far_on, so_far_behind, so_far_end, so_far_lines, so_far_counted, so_far_inside, so_far_ahead, so_far_addable, so_far_next}
+use Rattle.receiver.proofs.SoFar.{SoFar}
 use Rattle.receiver.proofs.receive_all.Given as goal
 
 abbrev pub invariant-loop-t : goal.invariant-loop-t

@@ -1,6 +1,5 @@
 -- `receiver::word_from` meets its contract. Assumes nothing.
 use native.Mathlib.Omega.{arith}
-use borrow.Author.Rules.{rules}
 use Rattle.receiver.proofs.BitLaws.{word_small, five_bits, whole_bits}
 use Rattle.receiver.proofs.word_from.Goals as goal
 
