@@ -1,6 +1,7 @@
 // A month of listings in numbers (document 02, R-12): for each frame and for sync the words read unchanged and mended, for each frame the
 // lost ones and the pages, whole and cut, and the listings that are refused.
 #![tactic(auto)]
+
 ghost use Rattle.std.specs.Prelude.{◌≡◌, false, ◌+◌, ◌*◌, ◌/◌, ◌≤◌, ◌<◌, length, replicate};
 ghost use Rattle.codeword.specs.Answer.{changed};
 ghost use Rattle.reader.specs.Answers.{judge_decoded};

@@ -1,0 +1,15 @@
+-- `coverage::add_counts` meets its contract. The invariant: the counts passed are sums, and the others are as they came. Assumes nothing.
+use mathlib.Core.Path.{◌≡◌, refl, ap, ◌∙◌}
+use mathlib.Core.List.{List}
+use Prim.Native.Nat.{ℕ, ◌+◌, ◌-◌, ◌≤◌, ◌<◌}
+use native.Mathlib.Omega.{arith}
+use lib.ListN.{length, get_or}
+use Rattle.base.proofs.ListLaws.{filled, filled_length, filled_here, tab-length, tab_turn, tab_full}
+use Rattle.coverage.specs.Report.{sums}
+use Rattle.coverage.proofs.add_counts.Given as goal
+
+abbrev pub invariant-loop-i : goal.invariant-loop-i
+invariant-loop-i l = (l.i ≤ length l.initial.counts) × (l.counts ≡ filled l.initial.counts (sums l.initial.counts l.more) l.i)
+
+abbrev pub decreases-loop-i : goal.decreases-loop-i
+decreases-loop-i l = length l.initial.counts - l.i
