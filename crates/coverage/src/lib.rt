@@ -330,6 +330,7 @@ fn add_listing(c: Coverage, listing: &[u8]) -> Coverage
 }
 
 // Adds a listing to a report: a declined call returns the report as it was.
+#[tactic(auto, using(crate::proofs::ReportLaws::added_over, crate::proofs::ReportLaws::added_full, crate::proofs::ReportLaws::added_more))]
 pub fn add(c: Coverage, listing: &[u8]) -> Covered
     ensures { result ≡ added_to c listing.now }
 {

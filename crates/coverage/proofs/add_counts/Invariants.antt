@@ -1,10 +1,8 @@
 -- `coverage::add_counts` meets its contract. The invariant: the counts passed are sums, and the others are as they came. Assumes nothing.
-use mathlib.Core.Path.{◌≡◌, refl, ap, ◌∙◌}
-use mathlib.Core.List.{List}
-use Prim.Native.Nat.{ℕ, ◌+◌, ◌-◌, ◌≤◌, ◌<◌}
-use native.Mathlib.Omega.{arith}
-use lib.ListN.{length, get_or}
-use Rattle.base.proofs.ListLaws.{filled, filled_length, filled_here, tab-length, tab_turn, tab_full}
+use mathlib.Core.Path.{◌≡◌}
+use Prim.Native.Nat.{◌-◌, ◌≤◌}
+use lib.ListN.{length}
+use Rattle.base.proofs.ListLaws.{filled}
 use Rattle.coverage.specs.Report.{sums}
 use Rattle.coverage.proofs.add_counts.Given as goal
 

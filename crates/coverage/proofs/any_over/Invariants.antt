@@ -1,12 +1,9 @@
 -- `coverage::any_over` meets its contract: all counts passed are within the limit. Assumes nothing.
-use mathlib.Core.Path.{◌≡◌, sym}
-use Prim.Native.Nat.{ℕ, ◌+◌, ◌-◌, ◌≤◌}
-use native.Mathlib.Omega.{arith}
+use mathlib.Core.Path.{◌≡◌}
+use Prim.Native.Nat.{◌+◌, ◌-◌, ◌≤◌}
 use lib.Dec.{leb}
-use lib.ListN.{length, get_or, drop}
-use borrow.Author.Tests.{le-leb, lt-leb, lt-ltb, le-ltb}
+use lib.ListN.{length, drop}
 use Rattle.base.specs.Leading.{leading}
-use Rattle.base.proofs.LeadingLaws.{leading_more, leading_stop, leading_end}
 use Rattle.coverage.proofs.any_over.Given as goal
 
 abbrev pub invariant-loop-i : goal.invariant-loop-i

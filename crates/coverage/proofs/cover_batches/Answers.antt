@@ -3,7 +3,6 @@ use mathlib.Core.Path.{◌≡◌}
 use mathlib.Core.List.{List}
 use Prim.Native.Nat.{ℕ}
 use lib.ListN.{replicate}
-use borrow.Author.Rules.{rules}
 use Rattle.reader.specs.Reading.{heard_in}
 use Rattle.coverage.specs.Tally.{frame_counts, sync_counts, page_counts}
 use Rattle.coverage.specs.Report.{of_batches}

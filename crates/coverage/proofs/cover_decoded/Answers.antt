@@ -5,7 +5,6 @@ use Prim.Native.Nat.{ℕ, ◌*◌}
 use native.Mathlib.Omega.{arith}
 use lib.ListN.{length, take}
 use lib.Seq.{length-take-le}
-use borrow.Author.Rules.{rules}
 use Rattle.reader.specs.Readable.{batches_first}
 use Rattle.reader.specs.Answers.{judge_decoded}
 use Rattle.reader.specs.declared.Verdict.{Verdict}

@@ -2,7 +2,6 @@
 use mathlib.Core.Path.{◌≡◌, ap, ◌∙◌}
 use Prim.Native.Nat.{ℕ}
 use lib.ListN.{set}
-use borrow.Author.Rules.{rules}
 use Rattle.base.specs.Lists.{tab}
 use Rattle.base.specs.Passing.{passing}
 use Rattle.reader.specs.declared.Fault.{Fault}

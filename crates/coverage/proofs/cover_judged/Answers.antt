@@ -1,6 +1,5 @@
 -- `coverage::cover_judged` meets its contract. Assumes nothing.
 use mathlib.Core.Path.{sym, ap, ◌∙◌}
-use borrow.Author.Rules.{rules}
 use Rattle.reader.specs.declared.Verdict.{Verdict}
 use Rattle.coverage.specs.Report.{of_verdict}
 use Rattle.coverage.proofs.cover_judged.Goals as goal

@@ -2,7 +2,6 @@
 use mathlib.Core.Path.{◌≡◌, ◌∙◌}
 use mathlib.Core.List.{List}
 use Prim.Native.Nat.{ℕ}
-use borrow.Author.Rules.{rules}
 use Rattle.listing.specs.Answers.{decoded_of}
 use Rattle.listing.specs.declared.Decoded.{Decoded}
 use Rattle.reader.specs.Readable.{batches_first}

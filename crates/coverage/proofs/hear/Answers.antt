@@ -1,6 +1,5 @@
 -- `coverage::hear` meets its contract. Assumes nothing.
 use mathlib.Core.Path.{sym, ap, ◌∙◌}
-use borrow.Author.Rules.{rules}
 use Rattle.coverage.specs.Progress.{heard_counts, open_after}
 use Rattle.coverage.proofs.hear.Goals as goal
 

@@ -1,6 +1,5 @@
 -- `coverage::is_over` meets its contract: test by test. Assumes nothing.
 use mathlib.Core.Path.{sym, ◌∙◌}
-use borrow.Author.Rules.{rules}
 use borrow.Author.Tests.{lt-ltb, le-ltb}
 use Rattle.coverage.specs.Report.{is_over}
 use Rattle.coverage.proofs.is_over.Goals as goal

@@ -1,5 +1,4 @@
 -- `coverage::per_million` meets its contract. Assumes nothing.
-use borrow.Author.Rules.{rules}
 use borrow.Author.Tests.{eq-eqb, ne_eqb}
 use Rattle.coverage.specs.Rates.{per_million}
 use Rattle.coverage.proofs.per_million.Goals as goal

@@ -1,6 +1,5 @@
 -- `coverage::read_slot` meets its contract: a refused word leaves at once as lost. Assumes nothing.
 use mathlib.Core.Path.{sym, ◌∙◌}
-use borrow.Author.Rules.{rules}
 use Rattle.coverage.proofs.SlotLaws.{slot_refused, slot_corrected}
 use Rattle.coverage.proofs.read_slot.Goals as goal
 
