@@ -80,6 +80,10 @@ module _ (f : ℕ → ℕ) (n : ℕ) (some : 0 < n) where
   pub trim_stop : (f (n - 1) ≡ 32 → ⊥) → length (trimmed (tab f n)) ≡ n
   trim_stop h = ap length (ap trimmed last ∙ trim_other (tab f (n - 1)) (f (n - 1)) (ne_eqb (f (n - 1)) 32 h) ∙ sym last) ∙ tab-length f n
 
+-- the loop of the numeric length stops behind a character that is no space
+pub numeric_stop : (gs : List ℕ) (n : ℕ) → 0 < n → (char_heard Numeric gs (n - 1) ≡ 32 → ⊥) → length (trimmed (tab (char_heard Numeric gs) n)) ≡ n
+numeric_stop gs n some h = trim_stop (char_heard Numeric gs) n some h
+
 pub trim_none : (f : ℕ → ℕ) (n : ℕ) → n ≤ 0 → length (trimmed (tab f n)) ≡ n
 unfolding trimmed tab
 trim_none f n h = let e : n ≡ 0 = omega arith in rw e

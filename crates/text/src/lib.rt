@@ -309,6 +309,7 @@ fn numeric_char(groups: &[u32], i: usize) -> u8
 }
 
 // The length of a numeric text: back over the trailing spaces.
+#[tactic(auto, using(crate::proofs::HeardLaws::numeric_stop))]
 fn numeric_length(groups: &[u32]) -> usize
     ensures { result ≡ length (heard_text Numeric groups.now) }
 {
