@@ -1,18 +1,18 @@
 -- Decimal numbers, and parts of a text written behind each other. Assumes nothing.
 use mathlib.Core.Path.{◌≡◌, refl, sym, ap, ◌∙◌}
-use mathlib.Core.List.{List, [], ◌∷◌, ◌++◌, append-nil, append_assoc}
+use mathlib.Core.List.{List, [], ◌∷◌, ◌++◌, append_assoc}
 use Prim.Native.Nat.{ℕ, zero, suc, ◌+◌, ◌-◌, ◌/◌, ◌%◌, ◌^◌, ◌≤◌, ◌<◌}
 use native.Mathlib.Omega.{arith}
 use native.Mathlib.Numerals.{add-one}
 use native.Mathlib.Nat.{pow-le-pow_right}
 use mathlib.Core.Logic.{⊎_elim}
-use lib.ListN.{length, take, drop, take-append-drop, length-append, length-drop, drop_of_length-le}
-use lib.Seq.{take-length, take_all, length-take-le}
+use lib.ListN.{length, take, drop, take-append-drop, length-append, drop_of_length-le}
+use lib.Seq.{take_all, length-take-le}
 use lib.Dec.{ltb}
 use borrow.Author.Tests.{lt-ltb, le-ltb}
 use Rattle.io.specs.Digits.{hex_digit_ascii, last_digits, IsDigitCount}
 use Rattle.base.specs.Lists.{over}
-use Rattle.base.proofs.ListLaws.{to_end, over_part, over_length, over_all_lem}
+use Rattle.base.proofs.ListLaws.{over_part, over_length, over_all_lem}
 use Rattle.base.proofs.SearchLaws.{le_or_lt, least_is, least_only}
 use Rattle.program.specs.Decimal.{decimal_length, decimal}
 
@@ -47,13 +47,6 @@ decimal_short n = omega (arith, digits_length (decimal_length n) n, (least_is (�
 
 -- ---- parts behind each other
 
--- a part over the front of all that stands behind an index
-pub copied : (out part p : List ℕ) (at : ℕ) → at ≤ length out → p ≡ take (length part) part ++ drop (length part) (take (length out - at) (drop at out))
-    → take at out ++ (p ++ drop (length out - at) (drop at out)) ≡ take at out ++ over (drop at out) part
-copied out part p at h e =
-    let none : drop (length out - at) (drop at out) ≡ [] = drop_of_length-le (drop at out) {i = length out - at} (omega (arith, length-drop at out)) in
-    rw (none, e, to_end at out, take-length part, append-nil (over (drop at out) part))
-
 -- a part behind those that are written: the slice as it was lent, the parts, their length
 pub appended : (old new part : List ℕ) (at n : ℕ) {out next : List ℕ} → out ≡ over old new → length new ≡ at → next ≡ take at out ++ over (drop at out) part → n ≡ at + length part
     → (next ≡ over old (new ++ part)) × (length (new ++ part) ≡ n)
@@ -67,10 +60,7 @@ Appends out at part n next = (n ≡ at + length part) × (next ≡ take at out +
 behind_all : (out p : List ℕ) (at : ℕ) → length out ≤ at → take at out ++ over (drop at out) p ≡ out ++ p
 behind_all out p at h = rw (take_all at out h, drop_of_length-le out {i = at} h) (ap (λ (x : List ℕ). out ++ x) (over_all_lem [] p (omega arith)))
 
--- no part behind an index, and two of them
-pub no_part : (out : List ℕ) (at : ℕ) → out ≡ take at out ++ over (drop at out) []
-no_part out at = sym (take-append-drop at out)
-
+-- one part behind an index, and another behind that
 pub two_parts : (out p q : List ℕ) (at : ℕ) {mid next : List ℕ} {m n : ℕ} → Appends out at p m mid → Appends mid m q n next → Appends out at (p ++ q) n next
 two_parts out p q at {mid} {next} {m} {n} e f = (omega (arith, e.0, f.0, length-append p q), ⊎_elim inside beyond (le_or_lt at (length out)))
   where

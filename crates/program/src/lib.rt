@@ -3,7 +3,9 @@
 // Each program is one call of `send`, `read`, `follow`, `receive` or `cover`, before the last of which each file is added by
 // `coverage::add`, and the few lines around it that read and write.
 #![tactic(auto)]
-ghost use Rattle.std.specs.Prelude.{◌≡◌, ◌++◌, ◌+◌, ◌≤◌, ◌<◌, length, take, drop};
+
+ghost use Rattle.std.specs.Prelude.{◌≡◌, false, ◌++◌, ◌+◌, ◌≤◌, ◌<◌, length, take, drop};
+ghost use Rattle.std.specs.Io.KnownBytes.{Consumes, IsAtEnd};
 ghost use Rattle.io.specs.Counts.{IsPrefixLen};
 ghost use Rattle.base.specs.Lists.{over};
 ghost use Rattle.job.specs.Submission.{with_book};
@@ -16,9 +18,12 @@ use codeword::Engine;
 use coverage::{Adding, Coverage, Rate};
 use follower::Following;
 use job_listing::Listed;
-use libc::STDIN_FILENO;
 use reader::Reading;
 use receiver::Receiving;
+use std::env::FillError;
+use std::io::Read;
+use std::rt::{Env, Files};
+use std::{fs, str};
 
 // What was read of standard input or of a file: how many bytes, and whether it can't be read.
 #[derive(Clone, Copy)]
@@ -27,20 +32,21 @@ pub struct Input {
     pub failed: bool,
 }
 
-// Reads a descriptor up to its end, or until the slice is full or a read fails. Of the bytes themselves no contract can speak.
-fn read_into(fd: i32, input: &mut [u8]) -> Input
-    ensures { IsPrefixLen result.bytes input.new }
+// Reads up to the reader's end, or until the slice is full or a read fails. Where the reader's bytes are known, those that it gave stand at
+// the front, and are all where the slice isn't full and no read failed; of standard input and of files no contract can say which they are.
+fn read_into<R: Read>(reader: &mut R, input: &mut [u8]) -> Input
+    ensures in_bounds { IsPrefixLen result.bytes input.new }
+    ensures bytes { Consumes (R.remaining reader.old) (R.remaining reader.new) (take result.bytes input.new) }
+    ensures end { result.failed ≡ false → result.bytes < length input.new → IsAtEnd (R.remaining reader.new) }
 {
     let mut n = 0;
     while n < input.len() {
-        let got = libc::read(fd, &mut input[n..]);
-        if got < 0 {
+        let Ok(more) = reader.read(&mut input[n..]) else {
             return Input {
                 bytes: n,
                 failed: true,
             };
-        }
-        let more = io::count(got, &input[n..]);
+        };
         if more == 0 {
             break;
         }
@@ -53,28 +59,51 @@ fn read_into(fd: i32, input: &mut [u8]) -> Input
 }
 
 // Reads standard input. There is room for one byte more than an input may have, so that a longer one is told.
-pub fn read_input(input: &mut [u8; 65537]) -> Input
-    ensures { IsPrefixLen result.bytes input.new }
+pub fn read_input<R: Read>(reader: &mut R, input: &mut [u8; 65537]) -> Input
+    ensures in_bounds { IsPrefixLen result.bytes input.new }
+    ensures bytes { Consumes (R.remaining reader.old) (R.remaining reader.new) (take result.bytes input.new) }
+    ensures end { result.failed ≡ false → result.bytes < 65537 → IsAtEnd (R.remaining reader.new) }
 {
-    read_into(STDIN_FILENO, input)
+    read_into(reader, input)
 }
 
-// Reads a file, which fails where it can't be opened or read. Of a long one only the first 65,536 bytes are read: of a phrase book what
-// stands behind the first 48,101 changes nothing (specs/BookFront.antt), of a listing what stands behind the first 46,557
-// (specs/ListingFront.antt).
-pub fn read_file(path: &[u8], bytes: &mut [u8; 65536]) -> Input
+// Reads a file, which fails where it can't be opened or read, and where its name is no UTF-8. Of a long one only the first 65,536 bytes are
+// read: of a phrase book what stands behind the first 48,101 changes nothing (specs/BookFront.antt), of a listing what stands behind the
+// first 46,557 (specs/ListingFront.antt).
+pub fn read_file<R: Files>(files: &R, path: &[u8], bytes: &mut [u8; 65536]) -> Input
     ensures { IsPrefixLen result.bytes bytes.new }
 {
-    let fd = os::open_read(path);
-    if fd < 0 {
+    let opened = match str::from_utf8(path) {
+        Ok(path) => fs::open(files, path).ok(),
+        Err(_) => None,
+    };
+    let Some(mut file) = opened else {
         return Input {
             bytes: 0,
             failed: true,
         };
+    };
+    read_into(&mut file, bytes)
+}
+
+// How many arguments a program was given, its own name among them.
+pub fn argument_count<E: Env>(env: &E) -> usize {
+    for i in 0..usize::MAX {
+        if let Err(FillError::NotPresent) = env.arg(i, &mut []) {
+            return i;
+        }
     }
-    let read = read_into(fd, bytes);
-    libc::close(fd);
-    read
+    usize::MAX
+}
+
+// Writes an argument over the front of a slice, and answers how many bytes it has: 0 where there is none, or where it doesn't fit.
+pub fn argument<E: Env>(env: &E, i: usize, out: &mut [u8]) -> usize
+    ensures { IsPrefixLen result out.new }
+{
+    match env.arg(i, out) {
+        Ok(n) => n,
+        Err(_) => 0,
+    }
 }
 
 // Whether an input is over 65,536 bytes: number 24.
@@ -90,8 +119,9 @@ fn append(out: &mut [u8], at: usize, part: &[u8]) -> usize
     ensures value { result ≡ at + length part.now }
     ensures out_after { out.new ≡ take at out.old ++ over (drop at out.old) part.now }
 {
-    let n = bytes::copy(part, &mut out[at..]);
-    at + n
+    let end = at + part.len();
+    out[at..end].copy_from_slice(part);
+    end
 }
 
 // The same with a number in decimal.
