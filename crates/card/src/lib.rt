@@ -1,5 +1,6 @@
 // The library as C calls it: each function is one call of the library, whose answer crosses as numbers (include/spuggenor.h).
 #![tactic(auto)]
+
 ghost use Rattle.std.specs.Prelude.{◌≡◌, length};
 ghost use Rattle.base.specs.Lists.{over};
 ghost use Rattle.codeword.specs.Answer.{answer};
@@ -372,11 +373,7 @@ pub fn card_follow_words(identity: u32, words: &[u32], out: &mut [u8]) -> CardFo
 }
 
 // The same of a listing.
-pub fn card_follow_listing(
-    identity: u32,
-    listing: &[u8],
-    out: &mut [u8],
-) -> CardFollowing
+pub fn card_follow_listing(identity: u32, listing: &[u8], out: &mut [u8]) -> CardFollowing
     ensures value { result ≡ following_for (follow_listing identity listing.now (length out.old)) }
     ensures out_after { out.new ≡ over out.old (lines_of (follow_listing identity listing.now (length out.old)) (pages_for identity (words_of listing.now))) }
 {
@@ -490,9 +487,10 @@ pub fn card_start<'a>(job: &'a [u8], book: &'a [u8], state: &mut Sender) -> Card
     let pages = state.pages;
     let sent = state.sent;
     let begun = begin(job, book, cursor, pages, sent, &mut state.words);
+    let unsent = begun.sent;
     state.cursor = begun.cursor;
     state.pages = begun.pages;
-    state.sent = begun.sent;
+    state.sent = unsent;
     begun.refusal
 }
 

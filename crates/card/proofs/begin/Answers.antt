@@ -14,9 +14,7 @@ use Rattle.sender.specs.Step.{state_from}
 use Rattle.sender.specs.Start.{opening_of, words_by, started_of}
 use Rattle.card.specs.declared.CardRefusal.{CardRefusal}
 use Rattle.card.specs.Answers.{refusal_for, state_for}
-use borrow.Author.Rules.{rules}
-use Rattle.card.proofs.begin.Statement.{statement}
-use Rattle.card.proofs.begin.Tie as tie
+use Rattle.card.proofs.begin.Goals as goal
 
 -- what is answered where the job opens as o and its message words are then `words`, over a state that was old
 module _ (s : Submission) (old : Sender) {o : Opening} {words : List ℕ} (e : o ≡ opening_of (started_of s)) (w : words ≡ words_by (job_of s) (started_of s).state.words old.words) where
@@ -41,56 +39,23 @@ module _ (s : Submission) (old : Sender) {o : Opening} {words : List ℕ} (e : o
       (λ i. state_from old.pages old.sent old.cursor (then_words (Refused why place) t i))
       ∙ ap (λ (x : JobAnswer). state_for x (started_of s).state old) (sym (answer (Refused why place) t))
 
-start-with-requires : tie.Need-start-with-requires
-start-with-requires c κs = search rules
-
-place-requires : tie.Need-place-requires
-place-requires c κs = search rules
-
-position-requires : tie.Need-position-requires
-position-requires c κs = search rules
-
-number-requires : tie.Need-number-requires
-number-requires c κs = search rules
-
-enum_told : tie.Need-enum-told
-enum_told c = search rules
-
-enum-told-2 : tie.Need-enum-told-2
-enum-told-2 c = search rules
-
-returns : tie.Need-returns
-returns c =
-    let a = c.before.before.before.before.before.before.before.before.before.before.before.before.args in
-    let s = c.before.before.before.before.before.before.before.before.start-with in
-    let told = c.before.before.before.enum_told.given in
+pub returns-in-Accepted : goal.returns-in-Accepted
+returns-in-Accepted c =
+    let a = c.args in
+    let s = c.start_with-opening in
     let submitted = with_book a.job.now a.book.now in
     let old = state_from a.table a.sent a.cursor a.words.now in (
-      refusal submitted old s.ensures.0 s.ensures.1 c.before.before.before.before.before.before.before.place.ensures c.before.before.before.before.before.before.position.ensures
-          c.before.before.before.before.before.number.ensures,
-      accepts submitted old s.ensures.0 s.ensures.1 told.0.0 told.1,
+      refusal submitted old s.ensures.value s.ensures.words_after c.place-place.ensures c.position-position.ensures
+          c.number-number.ensures,
+      accepts submitted old s.ensures.value s.ensures.words_after _ c.in-Accepted.is,
     )
 
-returns-2 : tie.Need-returns-2
-returns-2 c =
-    let a = c.before.before.before.before.before.before.before.before.before.args in
-    let s = c.before.before.before.before.before.start-with in
-    let told = c.enum-told2.given in
+pub returns-in-Refused : goal.returns-in-Refused
+returns-in-Refused c =
+    let a = c.args in
+    let s = c.start_with-opening in
     let submitted = with_book a.job.now a.book.now in
     let old = state_from a.table a.sent a.cursor a.words.now in (
-      refusal submitted old s.ensures.0 s.ensures.1 c.before.before.before.before.place.ensures c.before.before.before.position.ensures c.before.before.number.ensures,
-      declines submitted old s.ensures.0 s.ensures.1 told.0.0 told.0.1.0 told.1,
+      refusal submitted old s.ensures.value s.ensures.words_after c.place-place.ensures c.position-position.ensures c.number-number.ensures,
+      declines submitted old s.ensures.value s.ensures.words_after _ _ c.in-Refused.is,
     )
-
-pub begin-spec : {M : Type 1} → statement M
-begin-spec =
-    tie.close
-    (tie.spec
-    start-with-requires
-    place-requires
-    position-requires
-    number-requires
-    enum_told
-    enum-told-2
-    returns
-    returns-2)

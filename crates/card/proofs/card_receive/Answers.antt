@@ -7,9 +7,7 @@ use Rattle.receiver.specs.declared.Receiving.{Receiving}
 use Rattle.receiver.specs.declared.Totals.{Totals}
 use Rattle.card.specs.declared.CardReceiving.{CardReceiving}
 use Rattle.card.specs.Answers.{receiving_for}
-use borrow.Author.Rules.{rules}
-use Rattle.card.proofs.card_receive.Statement.{statement}
-use Rattle.card.proofs.card_receive.Tie as tie
+use Rattle.card.proofs.card_receive.Goals as goal
 
 -- the answer, by its number and its report
 made : (r : Receiving) {number : ℕ} {t : Totals} → number ≡ number_of r → t ≡ totals_received r
@@ -29,27 +27,9 @@ made r n e =
       changed = (e i).changed;
     }
 
-receive-requires : tie.Need-receive-requires
-receive-requires c κs = search rules
-
-number-requires : tie.Need-number-requires
-number-requires c κs = search rules
-
-report-requires : tie.Need-report-requires
-report-requires c κs = search rules
-
-same_length : tie.Need-same-length
-same_length c = search rules
-
-returns : tie.Need-returns
+pub returns : goal.returns
 returns c =
-    let v = c.before.before.before.before.before in
-    let a = v.before.before.before.before.args in
-    let done = v.receive.ensures in (
-      made v.receive.result c.before.before.number.ensures c.before.report.ensures ∙ ap receiving_for done.0,
-      done.1 ∙ ap (λ (r : Receiving). over a.out.now (lines_received r a.bits.now)) done.0,
-    )
-
-pub card-receive-spec : {M : Type 1} → statement M
-card-receive-spec =
-    tie.close (tie.spec receive-requires number-requires report-requires same_length returns)
+    let a = c.args in record {
+      value = made c.receive-receiving.result c.number-number.ensures c.report-totals.ensures ∙ ap receiving_for c.receive-receiving.ensures.value;
+      out_after = c.receive-receiving.ensures.out_after ∙ ap (λ (r : Receiving). over a.out.now (lines_received r a.bits.now)) c.receive-receiving.ensures.value;
+    }

@@ -6,29 +6,15 @@ use Rattle.codeword.specs.declared.Correction.{Correction}
 use Rattle.codeword.specs.declared.Correction.TheVariants.{Corrected}
 use Rattle.card.specs.declared.CardWord.{CardWord}
 use Rattle.card.specs.Answers.{word_for}
-use borrow.Author.Rules.{rules}
-use Rattle.card.proofs.word_numbers.Statement.{statement}
-use Rattle.card.proofs.word_numbers.Tie as tie
+use Rattle.card.proofs.word_numbers.Goals as goal
 
 -- the answer with the codeword as a number
 made : (w : ℕ) {c : Codeword} {a : Correction} {x n : ℕ} → x ≡ c.0 → a ≡ Corrected c n
     → ◌≡◌ {A = CardWord} (record { word = x; number = 0; changed = n }) (word_for w a)
 made w {c} {a} {x} {n} e f = (λ i. record { word = e i; number = 0; changed = n }) ∙ sym (ap (word_for w) f)
 
-enum-known-a : tie.Need-enum-known-a
-enum-known-a c = search rules
+pub returns-in_default : goal.returns-in_default
+returns-in_default c = sym (ap (word_for c.args.word) c.in_default.is)
 
-enum_told : tie.Need-enum-told
-enum_told c = search rules
-
-returns : tie.Need-returns
-returns c = sym (ap (word_for c.before.before.args.word) c.enum_told.given.1)
-
-word-requires : tie.Need-word-requires
-word-requires c κs = search rules
-
-returns-2 : tie.Need-returns-2
-returns-2 c = made c.before.before.before.before.args.word c.word.ensures c.before.before.a.given.1
-
-pub word-numbers-spec : {M : Type 1} → statement M
-word-numbers-spec = tie.close (tie.spec enum-known-a enum_told returns word-requires returns-2)
+pub returns : goal.returns
+returns c = made c.args.word c.word.ensures c.in-Corrected.is

@@ -1,0 +1,16 @@
+-- `card::card_follow_listing` meets its contract. Assumes nothing.
+use mathlib.Core.Path.{◌∙◌, ap}
+use Rattle.base.specs.Lists.{over}
+use Rattle.listing.specs.Words.{words_of}
+use Rattle.follower.specs.Pages.{pages_for}
+use Rattle.follower.specs.Answers.{lines_of}
+use Rattle.follower.specs.declared.Following.{Following}
+use Rattle.card.specs.Answers.{following_for}
+use Rattle.card.proofs.card_follow_listing.Goals as goal
+
+pub returns : goal.returns
+returns c =
+    let a = c.args in record {
+      value = c.following_numbers.ensures ∙ ap following_for c.follow_listing-following.ensures.value;
+      out_after = c.follow_listing-following.ensures.out_after ∙ ap (λ (r : Following). over a.out.now (lines_of r (pages_for a.identity (words_of a.listing.now)))) c.follow_listing-following.ensures.value;
+    }

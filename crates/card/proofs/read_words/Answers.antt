@@ -1,0 +1,14 @@
+-- `card::read_words` meets its contract. Assumes nothing.
+use mathlib.Core.Path.{◌∙◌, ap}
+use Rattle.base.specs.Lists.{over}
+use Rattle.reader.specs.Answers.{lines_read}
+use Rattle.reader.specs.declared.Reading.{Reading}
+use Rattle.card.specs.Answers.{reading_for}
+use Rattle.card.proofs.read_words.Goals as goal
+
+pub returns : goal.returns
+returns c =
+    let a = c.args in record {
+      value = c.reading_numbers.ensures ∙ ap reading_for c.read_words-reading.ensures.value;
+      out_after = c.read_words-reading.ensures.out_after ∙ ap (λ (r : Reading). over a.out.now (lines_read r a.words.now)) c.read_words-reading.ensures.value;
+    }
