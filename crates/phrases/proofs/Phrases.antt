@@ -37,6 +37,11 @@ module _ (l : List ℕ) {run : ℕ} (q : run ≡ char_run Alphanumeric l) where
       go true = refl
       go false = refl
 
+-- one to 240 of them make the whole line
+pub phrase_whole : (l : List ℕ) → 1 ≤ char_run Alphanumeric l → char_run Alphanumeric l ≤ 240 → 2 * char_run Alphanumeric l ≡ length l → is_phrase l ≡ true
+unfolding is_phrase
+phrase_whole l low high e = simp (le-leb 1 _ low, le-leb _ 240 high, eq-eqb _ _ e)
+
 pub phrase_parts : (l : List ℕ) → is_phrase l ≡ true → (1 ≤ char_run Alphanumeric l) × (char_run Alphanumeric l ≤ 240) × (2 * char_run Alphanumeric l ≡ length l)
 unfolding is_phrase
 phrase_parts l e =

@@ -15,6 +15,7 @@ pub enum Phrase {
 }
 
 // Whether a line of a book is a phrase.
+#[tactic(auto, using(crate::proofs::Phrases::phrase_whole))]
 fn is_phrase(line: &[u8]) -> bool
     ensures { result ≡ is_phrase line.now }
 {

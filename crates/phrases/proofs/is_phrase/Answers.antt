@@ -16,11 +16,6 @@ overflow_mul-run c =
 pub returns-then-run-line : goal.returns-then-run-line
 returns-then-run-line c = phrase_more _ c.char_run-run.ensures c.if-run-line.true
 
-pub returns-in-1-to-240 : goal.returns-in-1-to-240
-returns-in-1-to-240 c =
-    let r = c.char_run-run in
-    phrase_run _ r.ensures (omega arith) (simp (le-leb 1 r.result (omega arith), le-leb r.result 240 (omega arith)))
-
 pub returns-in_default : goal.returns-in_default
 returns-in_default c =
     let r = c.char_run-run in
