@@ -2,35 +2,40 @@
 // letter that says what is asked, a space, and the question. The program prints the line and, behind it, what the library answers.
 // The small letters w, r and l ask what W, R and L ask, of the slow engine.
 #![tactic(auto)]
+
+ghost use Rattle.io.specs.Counts.{IsPrefixLen};
+
 use codeword::{Codeword, Correction, Engine};
 use job::JobAnswer;
-use libc::{STDIN_FILENO, STDOUT_FILENO};
 use reader::Reading;
+use std::io::Read;
 use text::{Coding, Digits};
 use transmission::Report;
 
-fn print(s: &[u8]) {
-    io::write_all(STDOUT_FILENO, s);
+fn print(rt: &impl Print, s: &[u8]) {
+    let _ = rt.write_all(s);
 }
 
-fn print_number(n: u64) {
-    io::print_decimal(STDOUT_FILENO, n);
+fn print_number(rt: &impl Print, n: u64) {
+    let mut digits = [0u8; 20];
+    let length = io::decimal(n, &mut digits);
+    print(rt, &digits[..length]);
 }
 
 // A word in eight upper-case digits.
-fn print_word(word: u32) {
+fn print_word(rt: &impl Print, word: u32) {
     let mut digits = [0u8; 8];
     base::write_digits(&mut digits, word);
-    print(b" ");
-    print(&digits);
+    print(rt, b" ");
+    print(rt, &digits);
 }
 
 // Twenty bits in five upper-case digits.
-fn print_group(bits: u32) {
+fn print_group(rt: &impl Print, bits: u32) {
     let mut digits = [0u8; 5];
     base::write_digits(&mut digits, bits);
-    print(b" ");
-    print(&digits);
+    print(rt, b" ");
+    print(rt, &digits);
 }
 
 // The number that the digits from `at` to `end` of a slice write; 0 where there are none.
@@ -44,28 +49,31 @@ fn number_in(s: &[u8], at: usize, end: usize) -> u32 {
 }
 
 // `A 000009 0`: the address codeword of an identity and a function.
-fn address(line: &[u8]) {
-    print_word(Codeword::address(number_in(line, 2, 8), number_in(line, 9, 10)).word());
+fn address(rt: &impl Print, line: &[u8]) {
+    print_word(
+        rt,
+        Codeword::address(number_in(line, 2, 8), number_in(line, 9, 10)).word(),
+    );
 }
 
 // `M 84333`: the message codeword of 20 bits.
-fn message(line: &[u8]) {
-    print_word(Codeword::message(number_in(line, 2, 7)).word());
+fn message(rt: &impl Print, line: &[u8]) {
+    print_word(rt, Codeword::message(number_in(line, 2, 7)).word());
 }
 
-fn print_correction(answer: Correction) {
+fn print_correction(rt: &impl Print, answer: Correction) {
     let Correction::Corrected(c, changed) = answer else {
-        print(b" refused 20");
+        print(rt, b" refused 20");
         return;
     };
-    print_word(c.word());
-    print(b" changed ");
-    print_number(changed as u64);
+    print_word(rt, c.word());
+    print(rt, b" changed ");
+    print_number(rt, changed as u64);
 }
 
 // `W 00000003`: what a received word reads as, and how many bits are changed.
-fn word(engine: Engine, line: &[u8]) {
-    print_correction(codeword::correct_by(engine, number_in(line, 2, 10)));
+fn word(rt: &impl Print, engine: Engine, line: &[u8]) {
+    print_correction(rt, codeword::correct_by(engine, number_in(line, 2, 10)));
 }
 
 // The kind that the digit at an index writes; 0 where there is none.
@@ -77,7 +85,7 @@ fn kind_at(line: &[u8], at: usize) -> u32 {
 }
 
 // `T 000009 4 3132`: the groups of the text of a page line, the first eight of them.
-fn groups(line: &[u8]) {
+fn groups(rt: &impl Print, line: &[u8]) {
     if line.len() < 11 {
         return;
     }
@@ -89,31 +97,31 @@ fn groups(line: &[u8]) {
     let mut g = 0;
     while g < 8 {
         if g < n {
-            print_group(first[g]);
+            print_group(rt, first[g]);
         }
         g += 1;
     }
 }
 
 // `H 4 84333 00000`: the text that two groups say, numeric for the digit 4 and otherwise alphanumeric, between bars.
-fn heard(line: &[u8]) {
+fn heard(rt: &impl Print, line: &[u8]) {
     let groups = [number_in(line, 4, 9), number_in(line, 10, 15)];
-    print(b" |");
+    print(rt, b" |");
     match kind_at(line, 2) {
-        4 => print_heard(Coding::Numeric, &groups),
-        _ => print_heard(Coding::Alphanumeric, &groups),
+        4 => print_heard(rt, Coding::Numeric, &groups),
+        _ => print_heard(rt, Coding::Alphanumeric, &groups),
     }
-    print(b"|");
+    print(rt, b"|");
 }
 
-fn print_heard(coding: Coding, groups: &[u32; 2]) {
+fn print_heard(rt: &impl Print, coding: Coding, groups: &[u32; 2]) {
     let mut digits = [0u8; 20];
     let Digits::Written(n) = text::write_heard(coding, groups, &mut digits) else {
         return;
     };
     let mut i: usize = 0;
     while i < n / 2 {
-        print(&[base::pair_byte(&digits, i, 0)]);
+        print(rt, &[base::pair_byte(&digits, i, 0)]);
         i += 1;
     }
 }
@@ -139,26 +147,29 @@ fn newlines(question: &[u8], out: &mut [u8]) -> usize {
     i
 }
 
-fn print_answer(answer: JobAnswer) {
+fn print_answer(rt: &impl Print, answer: JobAnswer) {
     match answer {
         JobAnswer::Accepted(n) => {
-            print(b" accepted ");
-            print_number(n as u64);
+            print(rt, b" accepted ");
+            print_number(rt, n as u64);
         }
         JobAnswer::Refused { why: _, place: _ } => {
-            print(b" refused ");
-            print_number(job::number(answer) as u64);
-            print(b" place ");
-            print_number(job::place(answer) as u64);
-            print(b" position ");
-            print_number(job::position(answer) as u64);
+            print(rt, b" refused ");
+            print_number(rt, job::number(answer) as u64);
+            print(rt, b" place ");
+            print_number(rt, job::place(answer) as u64);
+            print(rt, b" position ");
+            print_number(rt, job::position(answer) as u64);
         }
     }
 }
 
 // Where the `/` of a question stands; at its end where there is none.
 fn slash(question: &[u8]) -> usize {
-    bytes::scan::find(question, 0, question.len(), b'/')
+    question
+        .iter()
+        .position(|b| *b == b'/')
+        .unwrap_or(question.len())
 }
 
 // The phrase book of a question, which a `/` ends; an empty one where there is no `/`.
@@ -180,42 +191,42 @@ fn job_of(question: &[u8]) -> &[u8] {
 }
 
 // `J 000009 0|`, or `J 41|4243|/000009 9 01|` with a phrase book: what a job is answered.
-fn job(line: &[u8]) {
+fn job(rt: &impl Print, line: &[u8]) {
     if line.len() < 2 {
         return;
     }
     let mut bytes = io::buffer();
     let n = newlines(&line[2..], &mut bytes);
-    answer_front(&bytes, n);
+    answer_front(rt, &bytes, n);
 }
 
 // What the first n bytes of a slice are answered as a job with its book.
-fn answer_front(bytes: &[u8], n: usize) {
+fn answer_front(rt: &impl Print, bytes: &[u8], n: usize) {
     let question = base::part(bytes, 0, n);
     let answer = job::read_job(job_of(question), book_of(question)).answer;
-    print_answer(answer);
+    print_answer(rt, answer);
 }
 
 // `P 41|4243|/000009 9 01|`: the function with which a job's first page is sent, and its text.
-fn page(line: &[u8]) {
+fn page(rt: &impl Print, line: &[u8]) {
     if line.len() < 2 {
         return;
     }
     let mut bytes = io::buffer();
     let n = newlines(&line[2..], &mut bytes);
-    page_front(&bytes, n);
+    page_front(rt, &bytes, n);
 }
 
 // The same of the first n bytes of a slice.
-fn page_front(bytes: &[u8], n: usize) {
+fn page_front(rt: &impl Print, bytes: &[u8], n: usize) {
     let question = base::part(bytes, 0, n);
     let job = job_of(question);
     let book = book_of(question);
     let first = job::read_job(job, book).pages[0];
-    print(b" function ");
-    print_number(job::function(first.kind) as u64);
-    print(b" text ");
-    print(job::page_text(job, book, first));
+    print(rt, b" function ");
+    print_number(rt, job::function(first.kind) as u64);
+    print(rt, b" text ");
+    print(rt, job::page_text(job, book, first));
 }
 
 fn word_buffer() -> [u32; 5118] {
@@ -227,19 +238,19 @@ fn wide(x: u32) -> u64 {
 }
 
 // The first n numbers of a slice, in decimal.
-fn print_numbers(numbers: &[u32], n: usize) {
+fn print_numbers(rt: &impl Print, numbers: &[u32], n: usize) {
     let mut i: usize = 0;
     while i < numbers.len() {
         if i < n {
-            print(b" ");
-            print_number(wide(numbers[i]));
+            print(rt, b" ");
+            print_number(rt, wide(numbers[i]));
         }
         i += 1;
     }
 }
 
 // What sending the first n bytes of a slice as a job of so many pages, with its book, reports, and the slots that it writes.
-fn send_front(bytes: &[u8], n: usize, pages: usize) {
+fn send_front(rt: &impl Print, bytes: &[u8], n: usize, pages: usize) {
     let question = base::part(bytes, 0, n);
     let mut words = word_buffer();
     let mut slots = [0u32; 48];
@@ -249,26 +260,26 @@ fn send_front(bytes: &[u8], n: usize, pages: usize) {
         words: count,
     } = report
     {
-        print(b" batches ");
-        print_number(batches as u64);
-        print(b" words ");
-        print_number(count as u64);
-        print(b" slots");
-        print_numbers(&slots, pages);
+        print(rt, b" batches ");
+        print_number(rt, batches as u64);
+        print(rt, b" words ");
+        print_number(rt, count as u64);
+        print(rt, b" slots");
+        print_numbers(rt, &slots, pages);
     } else {
-        print(b" refused ");
-        print_number(transmission::number(report) as u64);
+        print(rt, b" refused ");
+        print_number(rt, transmission::number(report) as u64);
     }
 }
 
 // `S 00000F 0|`, or with a phrase book: how a job is sent.
-fn send(line: &[u8]) {
+fn send(rt: &impl Print, line: &[u8]) {
     if line.len() < 2 {
         return;
     }
     let mut bytes = io::buffer();
     let n = newlines(&line[2..], &mut bytes);
-    send_front(&bytes, n, pages_of(&bytes, n));
+    send_front(rt, &bytes, n, pages_of(&bytes, n));
 }
 
 // The number of pages of the job, with its book, in the first n bytes of a slice.
@@ -290,24 +301,24 @@ fn bar_for_newline(b: u8) -> u8 {
 }
 
 // The first n bytes of a slice, a bar for each newline.
-fn print_bars(bytes: &[u8], n: usize) {
+fn print_bars(rt: &impl Print, bytes: &[u8], n: usize) {
     let mut i: usize = 0;
     while i < bytes.len() {
         if i < n {
-            print(&[bar_for_newline(bytes[i])]);
+            print(rt, &[bar_for_newline(bytes[i])]);
         }
         i += 1;
     }
 }
 
-fn print_refused(answer: Reading) {
-    print(b" refused ");
-    print_number(reader::number(answer) as u64);
-    print(b" place ");
-    print_number(reader::place(answer) as u64);
+fn print_refused(rt: &impl Print, answer: Reading) {
+    print(rt, b" refused ");
+    print_number(rt, reader::number(answer) as u64);
+    print(rt, b" place ");
+    print_number(rt, reader::place(answer) as u64);
 }
 
-fn print_reading(answer: Reading, lines: &[u8]) {
+fn print_reading(rt: &impl Print, answer: Reading, lines: &[u8]) {
     match answer {
         Reading::Read {
             pages,
@@ -316,21 +327,21 @@ fn print_reading(answer: Reading, lines: &[u8]) {
             changed,
             bytes,
         } => {
-            print(b" pages ");
-            print_number(pages as u64);
-            print(b" lost ");
-            print_number(lost as u64);
-            print(b" orphans ");
-            print_number(orphans as u64);
-            print(b" changed ");
-            print_number(changed.slots as u64);
-            print(b" syncs ");
-            print_number(changed.syncs as u64);
-            print(b" ");
-            print_bars(lines, bytes);
+            print(rt, b" pages ");
+            print_number(rt, pages as u64);
+            print(rt, b" lost ");
+            print_number(rt, lost as u64);
+            print(rt, b" orphans ");
+            print_number(rt, orphans as u64);
+            print(rt, b" changed ");
+            print_number(rt, changed.slots as u64);
+            print(rt, b" syncs ");
+            print_number(rt, changed.syncs as u64);
+            print(rt, b" ");
+            print_bars(rt, lines, bytes);
         }
-        Reading::Declined(_) => print_refused(answer),
-        Reading::NoRoom => print_refused(answer),
+        Reading::Declined(_) => print_refused(rt, answer),
+        Reading::NoRoom => print_refused(rt, answer),
     }
 }
 
@@ -357,71 +368,88 @@ fn words_in(line: &[u8], words: &mut [u32]) {
 }
 
 // `R 7CD215D8 000026EC C2199DEA`: what a batch of these words, idle behind them, reads as.
-fn read(engine: Engine, line: &[u8]) {
+fn read(rt: &impl Print, engine: Engine, line: &[u8]) {
     let mut words = [0u32; 17];
     words_in(line, &mut words);
     let mut out = io::buffer();
     let answer = reader::read_words(engine, &words, &mut out);
-    print_reading(answer, &out);
+    print_reading(rt, answer, &out);
 }
 
 // `L AAAAAAAA AAAAAAAA|..`: what a listing reads as.
-fn list(engine: Engine, line: &[u8]) {
+fn list(rt: &impl Print, engine: Engine, line: &[u8]) {
     if line.len() < 2 {
         return;
     }
     let mut bytes = io::buffer();
     let n = newlines(&line[2..], &mut bytes);
-    read_front(engine, &bytes, n);
+    read_front(rt, engine, &bytes, n);
 }
 
-fn read_front(engine: Engine, bytes: &[u8], n: usize) {
+fn read_front(rt: &impl Print, engine: Engine, bytes: &[u8], n: usize) {
     if bytes.len() < n {
         return;
     }
     let mut out = io::buffer();
     let answer = reader::read_listing(engine, &bytes[..n], &mut out);
-    print_reading(answer, &out);
+    print_reading(rt, answer, &out);
 }
 
 // An example, and what the library answers.
-fn run(line: &[u8]) {
-    print(line);
+fn run(rt: &impl Print, line: &[u8]) {
+    print(rt, line);
     if line.len() == 0 {
-        print(b"\n");
+        print(rt, b"\n");
         return;
     }
     let asked = line[0];
     match asked {
-        b'A' => address(line),
-        b'M' => message(line),
-        b'W' => word(Engine::Fast, line),
-        b'w' => word(Engine::Slow, line),
-        b'T' => groups(line),
-        b'H' => heard(line),
-        b'J' => job(line),
-        b'P' => page(line),
-        b'S' => send(line),
-        b'R' => read(Engine::Fast, line),
-        b'r' => read(Engine::Slow, line),
-        b'L' => list(Engine::Fast, line),
-        b'l' => list(Engine::Slow, line),
+        b'A' => address(rt, line),
+        b'M' => message(rt, line),
+        b'W' => word(rt, Engine::Fast, line),
+        b'w' => word(rt, Engine::Slow, line),
+        b'T' => groups(rt, line),
+        b'H' => heard(rt, line),
+        b'J' => job(rt, line),
+        b'P' => page(rt, line),
+        b'S' => send(rt, line),
+        b'R' => read(rt, Engine::Fast, line),
+        b'r' => read(rt, Engine::Slow, line),
+        b'L' => list(rt, Engine::Fast, line),
+        b'l' => list(rt, Engine::Slow, line),
         _ => {}
     }
-    print(b"\n");
+    print(rt, b"\n");
 }
 
-fn run_all(input: &[u8]) {
+fn run_all(rt: &impl Print, input: &[u8]) {
     let mut at: usize = 0;
     while at < input.len() {
         let end = base::line_end(input, at);
-        run(&input[at..end]);
+        run(rt, &input[at..end]);
         at = end + 1;
     }
 }
 
-fn main() {
+// Reads up to the reader's end, or until the slice is full or a read fails, and answers how many bytes it wrote over the front.
+fn read_full<R: Read>(reader: &mut R, input: &mut [u8]) -> usize
+    ensures { IsPrefixLen result input.new }
+{
+    let mut n = 0;
+    while n < input.len() {
+        let Ok(more) = reader.read(&mut input[n..]) else {
+            break;
+        };
+        if more == 0 {
+            break;
+        }
+        n += more;
+    }
+    n
+}
+
+fn main(rt: HostRuntime) {
     let mut input = io::large_buffer();
-    let n = io::read_full(STDIN_FILENO, &mut input);
-    run_all(&input[..n]);
+    let n = read_full(&mut rt.stdin(), &mut input);
+    run_all(&rt, &input[..n]);
 }
