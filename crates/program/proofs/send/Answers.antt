@@ -22,28 +22,28 @@ left c e = c.list_job-answer.ensures.out_after ∙ ap (λ (r : Listed). over c.a
 
 pub returns-then-is_long : goal.returns-then-is_long
 returns-then-is_long c =
-    let job = with_book c.args.input.now c.args.book.now in
-    let whole = counted c.args.out.now (send_prints job) (send_long job c.args.out.now (sym c.is_long.ensures ∙ c.if-is_long.true) (c.write_refusal.ensures.value, c.write_refusal.ensures.out_after)) in record { value = whole.0; out_after = whole.1.0; prefix_len = whole.1.1 }
+    let submitted = with_book c.args.input.now c.args.book.now in
+    let whole = counted c.args.out.now (send_prints submitted) (send_long submitted c.args.out.now (sym c.is_long.ensures ∙ c.if-is_long.true) (c.write_refusal.ensures.value, c.write_refusal.ensures.out_after)) in record { value = whole.0; out_after = whole.1.0; prefix_len = whole.1.1 }
 
 pub returns-in-Written : goal.returns-in-Written
 returns-in-Written c =
-    let job = with_book c.args.input.now c.args.book.now in
+    let submitted = with_book c.args.input.now c.args.book.now in
     let told = sym c.in-Written.is in
-    let whole = counted c.args.out.now (send_prints job)
-    (send_written job c.args.out.now (sym c.is_long.ensures ∙ c.if-is_long.false) _ (room (goal.at.returns-in-Written c).After-list_job-answer) (told ∙ c.list_job-answer.ensures.value) (left (goal.at.returns-in-Written c).After-list_job-answer (sym told))) in record { value = whole.0; out_after = whole.1.0; prefix_len = whole.1.1 }
+    let whole = counted c.args.out.now (send_prints submitted)
+    (send_written submitted c.args.out.now (sym c.is_long.ensures ∙ c.if-is_long.false) _ (room (goal.at.returns-in-Written c).After-list_job-answer) (told ∙ c.list_job-answer.ensures.value) (left (goal.at.returns-in-Written c).After-list_job-answer (sym told))) in record { value = whole.0; out_after = whole.1.0; prefix_len = whole.1.1 }
 
 pub returns-in-Declined : goal.returns-in-Declined
 returns-in-Declined c =
-    let job = with_book c.args.input.now c.args.book.now in
+    let submitted = with_book c.args.input.now c.args.book.now in
     let told = sym c.in-Declined.is in
-    let whole = counted c.args.out.now (send_prints job)
-    (send_declined job c.args.out.now (sym c.is_long.ensures ∙ c.if-is_long.false) _ _ _ (room (goal.at.returns-in-Declined c).After-list_job-answer) (told ∙ c.list_job-answer.ensures.value)
+    let whole = counted c.args.out.now (send_prints submitted)
+    (send_declined submitted c.args.out.now (sym c.is_long.ensures ∙ c.if-is_long.false) _ _ _ (room (goal.at.returns-in-Declined c).After-list_job-answer) (told ∙ c.list_job-answer.ensures.value)
     (line_as c.args.out.now _ _ _ (c.number-number.ensures ∙ ap listed.number_of (sym told)) (c.place-place.ensures ∙ ap listed.place_of (sym told)) (c.position-position.ensures ∙ ap listed.position_of (sym told)) (left (goal.at.returns-in-Declined c).After-list_job-answer (sym told)) (c.write_refusal-in-Declined.ensures.value, c.write_refusal-in-Declined.ensures.out_after))) in record { value = whole.0; out_after = whole.1.0; prefix_len = whole.1.1 }
 
 pub returns-in-NoRoom : goal.returns-in-NoRoom
 returns-in-NoRoom c =
-    let job = with_book c.args.input.now c.args.book.now in
+    let submitted = with_book c.args.input.now c.args.book.now in
     let told = sym c.in-NoRoom.is in
-    let whole = counted c.args.out.now (send_prints job)
-    (send_full job c.args.out.now (sym c.is_long.ensures ∙ c.if-is_long.false) _ (room (goal.at.returns-in-NoRoom c).After-list_job-answer) (told ∙ c.list_job-answer.ensures.value)
+    let whole = counted c.args.out.now (send_prints submitted)
+    (send_full submitted c.args.out.now (sym c.is_long.ensures ∙ c.if-is_long.false) _ (room (goal.at.returns-in-NoRoom c).After-list_job-answer) (told ∙ c.list_job-answer.ensures.value)
     (line_as c.args.out.now _ _ _ (c.number-number.ensures ∙ ap listed.number_of (sym told)) (c.place-place.ensures ∙ ap listed.place_of (sym told)) (c.position-position.ensures ∙ ap listed.position_of (sym told)) (left (goal.at.returns-in-NoRoom c).After-list_job-answer (sym told)) (c.write_refusal-in-NoRoom.ensures.value, c.write_refusal-in-NoRoom.ensures.out_after))) in record { value = whole.0; out_after = whole.1.0; prefix_len = whole.1.1 }
