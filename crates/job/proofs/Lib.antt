@@ -10,3 +10,4 @@ pub mod RefusalLaws
 pub mod Printed
 pub mod Settled
 pub mod FirstBad
+pub mod Decided

@@ -160,6 +160,7 @@ fn is_digits(t: &[u8]) -> bool
 }
 
 // Whether a text is one or more pairs of hexadecimal digits, of which so many at its front are known to be.
+#[tactic(auto, using(crate::proofs::Decided::pairs_odd, crate::proofs::Decided::pairs_even, crate::proofs::Decided::digits_behind))]
 fn is_pairs(t: &[u8], known: usize) -> bool
     requires { 2 * known ≤ leading is_hex t.now }
     ensures { result ≡ is_pairs t.now }
@@ -354,6 +355,7 @@ fn judge_kind(page: Page, text: &[u8], good: usize, book: &[u8]) -> LineAnswer
 }
 
 // The page of a well-formed line, or its first refusal.
+#[tactic(auto, using(crate::proofs::Decided::identity_high))]
 fn judge_page(page: Page, text: &[u8], good: usize, book: &[u8]) -> LineAnswer
     requires { Counted page.kind text.now good }
     ensures { result ≡ page_of book.now page text.now }
@@ -461,6 +463,7 @@ fn refused(why: Refusal, place: usize) -> Pages
 }
 
 // The pages of lines, or the refusal of the first faulty one. They are read once, front to back.
+#[tactic(auto, using(crate::proofs::Decided::many_refused))]
 fn read_lines(job: &[u8], book: &[u8]) -> Pages
     ensures { result ≡ answer_with (judge book.now 0 0 (split job.now)) (pages_of (with_book job.now book.now)) }
 {

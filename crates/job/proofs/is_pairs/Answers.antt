@@ -4,7 +4,7 @@ use Prim.Native.Nat.{◌+◌, ◌*◌, ◌%◌}
 use lib.Dec.{eqb}
 use lib.ListN.{length}
 use borrow.Author.Rules.{rules}
-use borrow.Author.Tests.{eq-eqb, ne_eqb}
+use borrow.Author.Tests.{eq-eqb}
 use Rattle.base.specs.Hex.{is_hex}
 use Rattle.base.specs.Leading.{leading}
 use Rattle.base.proofs.Bools.{and_false}
@@ -36,11 +36,3 @@ behind c =
 
 pub overflow_add-result : goal.overflow_add-result
 overflow_add-result c = search (rules, behind (goal.at.overflow_add-result c).After-hex_run, leading_le is_hex c.args.t.now)
-
-pub returns-then-n-eq0-2 : goal.returns-then-n-eq0-2
-unfolding is_pairs is_digits
-returns-then-n-eq0-2 c = rw (sym (behind (goal.at.returns-then-n-eq0-2 c).After-hex_run)) (simp (ne_eqb _ _ c.if-n-eq0.false, eq-eqb _ _ c.if-n-eq0-2.true))
-
-pub returns-else-n-eq0-2 : goal.returns-else-n-eq0-2
-unfolding is_pairs is_digits
-returns-else-n-eq0-2 c = simp (ne_eqb _ _ c.if-n-eq0.false, ne_eqb _ _ c.if-n-eq0-2.false)

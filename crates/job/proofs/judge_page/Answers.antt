@@ -1,15 +1,9 @@
 -- `job::judge_page` meets its contract: at each `return` the tests that led there decide `page_of`. Assumes nothing.
 use mathlib.Core.Path.{sym, ◌∙◌}
 use native.Mathlib.Omega.{arith}
-use borrow.Author.Tests.{lt-ltb, le-ltb}
+use borrow.Author.Tests.{le-ltb}
 use Rattle.job.specs.Line.{page_of}
 use Rattle.job.proofs.judge_page.Goals as goal
-
-pub returns-then-identity-gt2097151 : goal.returns-then-identity-gt2097151
-unfolding page_of
-returns-then-identity-gt2097151 c =
-    let a = c.args in
-    simp (lt-ltb 0x1FFFFF a.page.identity (omega arith))
 
 pub returns-then-is_reserved : goal.returns-then-is_reserved
 unfolding page_of

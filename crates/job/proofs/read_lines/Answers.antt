@@ -4,7 +4,7 @@ use native.Mathlib.Omega.{arith}
 use Rattle.base.proofs.LinesLaws.{end_after}
 use Rattle.job.specs.Submission.{with_book}
 use Rattle.job.specs.Pages.{pages_of}
-use Rattle.job.proofs.Laws.{judge_many, judge_unended, judge_line}
+use Rattle.job.proofs.Laws.{judge_unended, judge_line}
 use Rattle.job.proofs.Keeping.{keeping_none, keeping_more, keeping_all, answer_refused}
 use Rattle.job.proofs.read_lines.Goals.{After-line_end-end}
 use Rattle.job.proofs.read_lines.Goals as goal
@@ -15,14 +15,6 @@ ended c = rw c.line_end-end.ensures (end_after c.args.job.now c.loop-at.at)
 
 pub loop-at-init : goal.loop-at-init
 loop-at-init c = rw c.no_pages-pages.ensures (let a = c.args in keeping_none a.book.now a.job.now)
-
-pub returns-then-k-ge48 : goal.returns-then-k-ge48
-returns-then-k-ge48 c =
-    let a = c.args in
-    let b = a.book.now in
-    let job = a.job.now in
-    c.refused.ensures
-    ∙ answer_refused _ (pages_of (with_book job b)) (c.loop-at.invariant.answer ∙ judge_many b job c.loop-at.at c.loop-at.k (omega arith) (omega arith))
 
 pub returns-then-job-end : goal.returns-then-job-end
 returns-then-job-end c =
