@@ -54,7 +54,7 @@ ready c =
 
 -- the part of the words that is written
 sized : (c : After-write_pages-arg-1) → 18 + 17 * c.place-batches.result ≡ length (take (18 + 17 * c.place-batches.result) c.args.words.now)
-sized c = sym (length-take-le (18 + 17 * c.place-batches.result) c.args.words.now c.if-words-room.false)
+sized c = sym (length-take-le (18 + 17 * c.place-batches.result) c.args.words.now (omega arith))
 
 pub loop-k-init : goal.loop-k-init
 loop-k-init c = ((accepted_job (with_book c.args.job.now c.args.book.now) c.args.n c.requires.book_value).most, omega arith, refl, refl)
@@ -103,7 +103,7 @@ overflow_add-count c = record { fits = omega (arith, few_batches (ready (goal.at
 pub returns-then-words-room : goal.returns-then-words-room
 returns-then-words-room c =
     record {
-      value = short_words (ready (goal.at.returns-then-words-room c).After-place-batches) (length c.args.words.now) (length c.args.slots.now) c.if-words-room.true;
+      value = short_words (ready (goal.at.returns-then-words-room c).After-place-batches) (length c.args.words.now) (length c.args.slots.now) (omega arith);
       words_after = refl;
       slots_after = refl;
     }
@@ -111,7 +111,7 @@ returns-then-words-room c =
 pub returns-then-slots-n : goal.returns-then-slots-n
 returns-then-slots-n c =
     record {
-      value = short_slots (ready (goal.at.returns-then-slots-n c).After-place-batches) (length c.args.words.now) (length c.args.slots.now) c.if-words-room.false c.if-slots-n.true;
+      value = short_slots (ready (goal.at.returns-then-slots-n c).After-place-batches) (length c.args.words.now) (length c.args.slots.now) (omega arith) (omega arith);
       words_after = refl;
       slots_after = refl;
     }
@@ -140,14 +140,14 @@ pub slice_bounds-copy_front-end : goal.slice_bounds-copy_front-end
 slice_bounds-copy_front-end c = sym (length-take-le c.args.n c.place-batches.new.out (ready (goal.at.slice_bounds-copy_front-end c).After-place-batches).long)
 
 pub copy_front-requires : goal.copy_front-requires
-copy_front-requires c = omega (arith, length-take-le c.args.n c.place-batches.new.out (ready (goal.at.copy_front-requires c).After-place-batches).long, c.if-slots-n.false)
+copy_front-requires c = omega (arith, length-take-le c.args.n c.place-batches.new.out (ready (goal.at.copy_front-requires c).After-place-batches).long)
 
 pub returns : goal.returns
 returns c =
     let r = ready (goal.at.returns c).After-place-batches in
     let words = c.args.words.now in
     let slots = c.args.slots.now in record {
-      value = enough r (length words) (length slots) c.if-words-room.false c.if-slots-n.false;
+      value = enough r (length words) (length slots) (omega arith) (omega arith);
       words_after = words_over r words c.write_pages.ensures;
       slots_after = slots_over r slots c.copy_front.ensures;
     }

@@ -56,7 +56,7 @@ pub loop-i-preserved : goal.loop-i-preserved
 loop-i-preserved c =
     let s = with_book c.args.job.now c.args.book.now in
     let i = c.loop-i.i in
-    let h : i < c.args.n = c.loop-i-test.true in (
+    let h : i < c.args.n = omega arith in (
       c.loop-i.invariant.0,
       omega (arith, h),
       page_more s c.args.n c.requires.book_value c.requires.planned i h _ (sent-as (goal.at.loop-i-preserved c).In-loop-i) c.loop-i.invariant.2 c.write_page.ensures,
