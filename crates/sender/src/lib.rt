@@ -217,6 +217,7 @@ fn run_wrong(count: u32, lengths: &[u16; 48], c: Cursor) -> bool
 }
 
 // Whether a step is declined, whatever the addresses are.
+#[tactic(auto, unfolding(crate::specs::Step::declined, crate::specs::Step::wrong_at, crate::specs::Step::run_wrong))]
 fn is_declined<'a>(
     count: u32,
     starts: &'a [u16; 48],
