@@ -2,7 +2,7 @@
  * by both engines; the lines of a single pager, as its desk receiver has them; all lines again from a radio's recording; and two listings
  * in numbers.
  *
- * Build and run it in the repository's folder, once `rt staticlib card` has made the archive:
+ * Build and run it in the repository's folder, once `tools/build` has made the archive:
  *     gcc -Wall -Wextra tests/c/example.c -Iinclude target/staticlib/libcard.a -o target/example && target/example
  * It prints the page lines in the order of their slots, then those of one pager, then all once more, then a few numbers, and ends with
  * status 0 where all agrees. */

@@ -15,7 +15,7 @@ fn main() {
     let archive = folder.join("libcard.a");
     println!("cargo:rerun-if-changed={}", archive.display());
     if !archive.exists() {
-        eprintln!("{} isn't there: make it with `rt staticlib card`,", archive.display());
+        eprintln!("{} isn't there: make it with `tools/build`,", archive.display());
         eprintln!("name its folder in CARD_LIB, or build with --features stand-in");
         std::process::exit(1);
     }

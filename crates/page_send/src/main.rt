@@ -23,7 +23,7 @@ fn send_input<R: Input + Print + Eprint>(rt: &R, book: &[u8]) {
 // Sends it with the phrase book of a file.
 fn send_with<R: Files + Input + Print + Eprint>(rt: &R, path: &[u8]) {
     let mut book = [0u8; 65536];
-    let read = program::read_file(rt, path, &mut book);
+    let read = program::read_book(rt, path, &mut book);
     if read.failed {
         let _ = eprintln!(rt; "page_send: the phrase book can't be read");
         return;

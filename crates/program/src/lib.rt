@@ -86,6 +86,13 @@ pub fn read_file<R: Files>(files: &R, path: &[u8], bytes: &mut [u8; 65536]) -> I
     read_into(&mut file, bytes)
 }
 
+// Reads the phrase book of a file, as any file is read.
+pub fn read_book<R: Files>(files: &R, path: &[u8], book: &mut [u8; 65536]) -> Input
+    ensures { IsPrefixLen result.bytes book.new }
+{
+    read_file(files, path, book)
+}
+
 // How many arguments a program was given, its own name among them.
 pub fn argument_count<E: Env>(env: &E) -> usize {
     for i in 0..usize::MAX {
