@@ -42,6 +42,8 @@ failing() {
     expect "closed output$which" '' "$program: standard output can't be written"
     "./$program" "$@" < "$input" > /dev/full 2> "$work/err"
     expect "full output$which" '' "$program: standard output can't be written"
+    (sleep 0.2; exec "./$program" "$@" < "$input" 2> "$work/err") | true
+    expect "an output that nobody reads$which" '' "$program: standard output can't be written"
 }
 
 for program in page_send page_read page_read_slow page_follow page_receive; do
@@ -75,6 +77,8 @@ with 'a book without a name' '' "$usage" ''
 with 'two books' '' "$usage" "$work/book" "$work/book"
 with 'a missing book' '' "$unread" "$work/none"
 with 'a folder as a book' '' "$unread" /
+cp "$work/book" "$work/b"$'\xff'
+with 'a book whose name is no UTF-8' '' "$unread" "$work/b"$'\xff'
 with 'an empty book' 'refused 4 place 1' '' /dev/null
 with 'a book without end' 'refused 19 place 1' '' /dev/zero
 mkfifo "$work/pipe"
@@ -157,6 +161,8 @@ with 'a missing file' '' "page_coverage: $work/none can't be read" "$work/none"
 with 'a second file that is missing' '' "page_coverage: none can't be read" "$work/listing" none
 with 'a missing file before another' '' "page_coverage: none can't be read" none "$work/listing"
 with 'a folder as a file' '' "page_coverage: / can't be read" /
+cp "$work/listing" "$work/l"$'\xff'
+with 'a file whose name is no UTF-8' '' "page_coverage: $work/l"$'\xff'" can't be read" "$work/l"$'\xff'
 with 'a folder between two files' '' "page_coverage: $work can't be read" "$work/listing" "$work" "$work/listing"
 with 'a file without end' "$(report 2 1 1 2 1)" '' /dev/zero "$work/listing"
 (cd "$work" && timeout 10 sh -c 'exec > pipe; sleep 0.2; head -c 5 listing; sleep 0.2; tail -c +6 listing') &
@@ -181,6 +187,8 @@ for file in "$work/listing" /dev/null; do
 done
 ./page_coverage > /dev/full 2> "$work/err"
 expect 'no file and a full output' '' "$full"
+(sleep 0.2; exec ./page_coverage 2> "$work/err") | true
+expect 'no file and an output that nobody reads' '' "$full"
 ./page_coverage "${files[@]}" "$work/listing" > /dev/full 2> "$work/err"
 expect 'a refusal to a full output' '' "$full"
 ./page_coverage none > /dev/full 2> "$work/err"
