@@ -1,8 +1,8 @@
 /* Spuggenor: the library of a paging terminal's card, as C and C++ see it (x86-64 Linux; C99 or newer, C++98 or newer).
  *
  * One library, three names: it is called Spuggenor; its functions begin with card_, since they are what the card calls; and they come
- * from the crate `card`, so that `rt staticlib card` writes them to target/staticlib/libcard.a. Link that file and nothing else: of
- * the C library it needs only memcpy and memset.
+ * from the crate `card`, which `card_c` exports, so that `tools/build` writes them to target/staticlib/libcard.a. Link that file and
+ * nothing else: of the C library it needs only memcpy, memmove and memset.
  *
  * What the caller must keep: a pointer that comes with a length points at that many elements, aligned for them, or is null where the
  * length is 0; a state or report is never null; a buffer, state or report that a call may write (a pointer without const) overlaps
