@@ -18,6 +18,7 @@ pub enum HexWord {
 
 // The value of an upper-case hexadecimal digit; 16 for any other byte. One arm a digit: a table, where two ranges would be branches
 // that no processor foresees.
+#[tactic(auto, unfolding(crate::specs::Hex::digit_value, crate::specs::Hex::is_hex, crate::specs::Hex::hex_of))]
 pub fn digit_value(b: u8) -> u8
     ensures { result ≡ digit_value b }
 {
@@ -57,6 +58,7 @@ pub fn hex_value(b: u8) -> u8
 }
 
 // The digit of the low four bits of a number.
+#[tactic(auto, unfolding(crate::specs::Hex::digit_of))]
 pub fn hex_digit(v: u32) -> u8
     ensures { result ≡ digit_of (v % 16) }
 {
@@ -136,6 +138,7 @@ pub fn pair_byte(pairs: &[u8], k: usize, fill: u8) -> u8
 }
 
 // Where the line that starts at an index ends: the index of its newline, or of the end where there is none.
+#[tactic(auto, using(crate::proofs::LinesLaws::newline_here))]
 pub fn line_end(s: &[u8], at: usize) -> usize
     ensures { result ≡ line_end s.now at }
 {

@@ -2,23 +2,18 @@ use mathlib.Core.Path.{ap}
 use mathlib.Core.Bool.{not}
 use native.Mathlib.Omega.{arith}
 use borrow.Author.Rules.{rules}
-use borrow.Author.Tests.{eq-eqb, ne_eqb}
+use borrow.Author.Tests.{ne_eqb}
 use Rattle.base.specs.Lines.{not_newline, line_end}
-use Rattle.base.proofs.LeadingLaws.{leading_more, leading_stop, leading_end}
+use Rattle.base.proofs.LeadingLaws.{leading_more, leading_end}
 use Rattle.base.proofs.line_end.Goals as goal
 
 pub loop-i-init : goal.loop-i-init
 unfolding line_end
 loop-i-init c = search rules
 
-pub returns-then-s-i-eq10 : goal.returns-then-s-i-eq10
-returns-then-s-i-eq10 c =
-    let none = leading_stop not_newline c.args.s.now c.loop-i.i (omega arith) (ap not (eq-eqb _ _ c.if-s-i-eq10.true)) in
-    omega (arith, c.loop-i.invariant)
-
 pub loop-i-preserved : goal.loop-i-preserved
 loop-i-preserved c =
-    let more = leading_more not_newline c.args.s.now c.loop-i.i (omega arith) (ap not (ne_eqb _ _ c.if-s-i-eq10.false)) in
+    let more = leading_more not_newline c.args.s.now c.loop-i.i (omega arith) (ap not (ne_eqb _ _ (λ e. omega arith))) in
     omega (arith, c.loop-i.invariant)
 
 pub returns : goal.returns
