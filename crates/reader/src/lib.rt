@@ -120,6 +120,7 @@ fn symbol(c: Codeword) -> u32
 }
 
 // How many of the changed bits count, by the word's symbol: none where it is lost.
+#[tactic(auto, using(crate::proofs::ChangeLaws::kept))]
 fn unless_lost(symbol: u32, changed: u32) -> u32
     ensures { result ≡ unless_lost (said symbol) changed }
 {
@@ -613,6 +614,7 @@ fn judge_batches(words: &[u32]) -> Verdict
 }
 
 // Whether a slice of words can be read: numbers 21, 23, 22.
+#[tactic(auto, using(crate::proofs::AnswerLaws::words_many))]
 pub fn judge_words(words: &[u32]) -> Verdict
     ensures { result ≡ judge_words words.now }
 {

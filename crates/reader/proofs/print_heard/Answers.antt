@@ -11,7 +11,7 @@ use Rattle.reader.proofs.PageLaws.{few_digits, few_bytes, nothing_heard, page_he
 use Rattle.reader.proofs.print_heard.Goals.{After-write_page-n}
 use Rattle.reader.proofs.print_heard.Goals as goal
 
--- the digits that are lent on are those of its text
+-- `page` is the page that is lent; the digits that are lent on are those of its text
 text-inside : (c : After-write_page-n) → c.write_page-n.result ≤ length c.write_page-n.new.digits
 text-inside c =
     let a = c.args in

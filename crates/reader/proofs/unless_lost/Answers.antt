@@ -1,9 +1,7 @@
 -- `reader::unless_lost` meets its contract. Assumes nothing.
-use Rattle.reader.proofs.ChangeLaws.{kept, lost}
+use native.Mathlib.Omega.{arith}
+use Rattle.reader.proofs.ChangeLaws.{lost}
 use Rattle.reader.proofs.unless_lost.Goals as goal
 
-pub returns-then-symbol-lt-LOST : goal.returns-then-symbol-lt-LOST
-returns-then-symbol-lt-LOST c = search kept
-
 pub returns : goal.returns
-returns c = search lost
+returns c = lost c.args.symbol c.args.changed (omega arith)
