@@ -237,7 +237,8 @@ fn send_pages<'a>(
     let batches = placement::place(&frames[..n], &groups[..n], &mut places);
     let count = 18 + 17 * batches;
     let room = count as usize;
-    if words.len() < room {
+    let short = words.len() < room;
+    if short {
         return Report::NoRoom;
     }
     if slots.len() < n {

@@ -100,10 +100,10 @@ overflow_mul-count c = record { fits = omega (arith, few_batches (ready (goal.at
 pub overflow_add-count : goal.overflow_add-count
 overflow_add-count c = record { fits = omega (arith, few_batches (ready (goal.at.overflow_add-count c).After-place-batches)) }
 
-pub returns-then-words-room : goal.returns-then-words-room
-returns-then-words-room c =
+pub returns-then-short : goal.returns-then-short
+returns-then-short c =
     record {
-      value = short_words (ready (goal.at.returns-then-words-room c).After-place-batches) (length c.args.words.now) (length c.args.slots.now) (omega arith);
+      value = short_words (ready (goal.at.returns-then-short c).After-place-batches) (length c.args.words.now) (length c.args.slots.now) (omega arith);
       words_after = refl;
       slots_after = refl;
     }
