@@ -8,8 +8,8 @@
  * length is 0; a state or report is never null; a buffer, state or report that a call may write (a pointer without const) overlaps
  * nothing else that the call is given. Nothing else: every value of every argument and every byte of a state or report gets an answer.
  * The library allocates nothing and keeps nothing between calls, so calls on different memory may run at once.
- * Measured, receiving takes some 190 KB of stack, reading a listing or following an identity in one 145 KB, reading words or following
- * in them 125 KB, card_coverage_add 45 KB, card_list 30 KB, every other call 10 KB or less.
+ * Measured, receiving takes some 190 KB of stack, reading a listing or following an identity in one 165 KB, reading words or following
+ * in them 125 KB, card_coverage_add 65 KB, card_list 30 KB, every other call 11 KB or less.
  *
  * A number of 0 says that nothing is declined; the others are the CARD_REFUSED_ below. A declined call leaves every lent buffer, state
  * and report as it was, and its counts are zero. In a lent buffer what stands behind the last element written keeps its value.
