@@ -167,7 +167,7 @@ struct card_reading card_read_listing_slowly(const uint8_t *listing, size_t list
 /* ---- following one identity, as a desk receiver does: of the lines that reading prints those with the identity, in the same order,
  * whatever the kind, lines of pages cut short among them. As long as no page of the identity is open, only the two words of its frame
  * are looked at in each batch, and the sync words: in the words of many batches it takes an eighth of the time of reading, in their
- * listing half of it. The words are corrected by the fast engine. */
+ * listing half of it (measured as the older kit built it). The words are corrected by the fast engine. */
 
 struct card_following {
     size_t place;
