@@ -11,9 +11,9 @@ use Rattle.coverage.specs.Rates.{in_class, rate_of}
 use Rattle.coverage.specs.declared.Coverage.{Coverage}
 use Rattle.coverage.specs.declared.Rate.{Rate}
 use Rattle.program.specs.Decimal.{decimal}
-use Rattle.program.specs.CoverageText.{labelled, read_part, lost_part, rate_part, refused_part, frame_line, frame_lines, sync_line}
+use Rattle.program.specs.CoverageText.{labelled, read_part, lost_part, rate_part, refused_part, frame_line, frame_lines, sync_line, listings_line}
 use Rattle.program.specs.CoverageText as label
-use Rattle.program.proofs.PartLaws.{decimal_short, Appends, appended}
+use Rattle.program.proofs.PartLaws.{decimal_short}
 
 -- ---- how long the parts can be
 
@@ -78,6 +78,18 @@ sync_short c =
     let read = read_part (in_class c 8 0) (in_class c 8 1) (in_class c 8 2) in
     omega (arith, length-append read (rate_part (rate_of c 8)), read_short (in_class c 8 0) (in_class c 8 1) (in_class c 8 2), rate_short (rate_of c 8))
 
+pub listings_short : (c : Coverage) → length (listings_line c) ≤ 123
+unfolding listings_line
+listings_short c =
+    let refused = refused_part (get_or c.refused 0 0) (get_or c.refused 1 0) (get_or c.refused 2 0) in
+    omega (
+      arith,
+      length-append (labelled label.listings_label c.listings) (refused ++ (10 ∷ [])),
+      length-append refused (10 ∷ []),
+      labelled_short label.listings_label c.listings,
+      refused_short (get_or c.refused 0 0) (get_or c.refused 1 0) (get_or c.refused 2 0),
+    )
+
 -- ---- the lines by the counts that are read
 
 module _ (c : Coverage) {r : Rate} where
@@ -94,9 +106,3 @@ module _ (c : Coverage) {r : Rate} where
   pub sync_is : r ≡ rate_of c 8 → label.sync_label ++ (read_part (get_or c.sync 0 0) (get_or c.sync 1 0) (get_or c.sync 2 0) ++ rate_part r) ≡ sync_line c
   unfolding sync_line
   sync_is e = rw e refl
-
--- one frame's line behind those that are written
-pub next_frame : (c : Coverage) (old : List ℕ) (f n m : ℕ) {out next : List ℕ} → out ≡ over old (frame_lines c f) → length (frame_lines c f) ≡ n → Appends out n (frame_line c f) m next
-    → (next ≡ over old (frame_lines c (f + 1))) × (length (frame_lines c (f + 1)) ≡ m)
-unfolding frame_lines
-next_frame c old f n m e l a = rw (add-one f) (appended old (frame_lines c f) (frame_line c f) n m e l a.1 a.0)

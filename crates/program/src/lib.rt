@@ -15,15 +15,18 @@ ghost use Rattle.program.specs.Prints.{is_long, position_part, refusal_line, sen
 
 use base::HexWord;
 use codeword::Engine;
-use coverage::{Adding, Coverage, Rate};
+use coverage::{Adding, Coverage};
 use follower::Following;
 use job_listing::Listed;
+use printed::Printed;
 use reader::Reading;
 use receiver::Receiving;
 use std::env::FillError;
 use std::io::Read;
 use std::rt::{Env, Files};
 use std::{fs, str};
+
+mod printed;
 
 // What was read of standard input or of a file: how many bytes, and whether it can't be read.
 #[derive(Clone, Copy)]
@@ -120,163 +123,20 @@ fn is_long(input: &[u8]) -> bool
     65536 < input.len()
 }
 
-// Writes bytes behind those that stand at the front of a slice, and answers where they end.
-fn append(out: &mut [u8], at: usize, part: &[u8]) -> usize
-    requires { at + length part.now ≤ length out.old }
-    ensures value { result ≡ at + length part.now }
-    ensures out_after { out.new ≡ take at out.old ++ over (drop at out.old) part.now }
-{
-    let end = at + part.len();
-    out[at..end].copy_from_slice(part);
-    end
-}
-
-// The same with a number in decimal.
-fn append_decimal(out: &mut [u8], at: usize, number: u64) -> usize
-    requires { at + 20 ≤ length out.old }
-    ensures value { result ≡ at + length (decimal number) }
-    ensures out_after { out.new ≡ take at out.old ++ over (drop at out.old) (decimal number) }
-{
-    let mut digits = [0u8; 20];
-    let n = io::decimal(number, &mut digits);
-    append(out, at, &digits[..n])
-}
-
-// The same with what stands behind the place of a refusal.
-fn append_position(out: &mut [u8], at: usize, number: u32, position: usize) -> usize
-    requires { at + 21 ≤ length out.old }
-    ensures value { result ≡ at + length (position_part number position) }
-    ensures out_after { out.new ≡ take at out.old ++ over (drop at out.old) (position_part number position) }
-{
-    if number != 6 {
-        return at;
-    }
-    let n = append(out, at, b" ");
-    append_decimal(out, n, position as u64)
-}
-
 // Writes the line of a refusal over the front of a slice, and answers how many bytes it has.
 fn write_refusal(number: u32, place: usize, position: usize, out: &mut [u8]) -> usize
     requires { 80 ≤ length out.old }
     ensures value { result ≡ length (refusal_line number place position) }
     ensures out_after { out.new ≡ over out.old (refusal_line number place position) }
 {
-    let mut n = append(out, 0, b"refused ");
-    n = append_decimal(out, n, number as u64);
-    n = append(out, n, b" place ");
-    n = append_decimal(out, n, place as u64);
-    n = append_position(out, n, number, position);
-    append(out, n, b"\n")
-}
-
-// The same with a label and a number behind it.
-fn append_labelled(out: &mut [u8], at: usize, label: &[u8], number: u64) -> usize
-    requires { at + length label.now + 20 ≤ length out.old }
-    ensures value { result ≡ at + length (labelled label.now number) }
-    ensures out_after { out.new ≡ take at out.old ++ over (drop at out.old) (labelled label.now number) }
-{
-    let n = append(out, at, label);
-    append_decimal(out, n, number)
-}
-
-// The same with words that were read, by their mended bits.
-fn append_read(out: &mut [u8], at: usize, unchanged: u32, one: u32, two: u32) -> usize
-    requires { at + 81 ≤ length out.old }
-    ensures value { result ≡ at + length (read_part unchanged one two) }
-    ensures out_after { out.new ≡ take at out.old ++ over (drop at out.old) (read_part unchanged one two) }
-{
-    let mut n = append_labelled(out, at, b" unchanged ", unchanged as u64);
-    n = append_labelled(out, n, b" one ", one as u64);
-    append_labelled(out, n, b" two ", two as u64)
-}
-
-// The same with lost words, and pages.
-fn append_lost(out: &mut [u8], at: usize, lost: u32, whole: u32, cut: u32) -> usize
-    requires { at + 78 ≤ length out.old }
-    ensures value { result ≡ at + length (lost_part lost whole cut) }
-    ensures out_after { out.new ≡ take at out.old ++ over (drop at out.old) (lost_part lost whole cut) }
-{
-    let mut n = append_labelled(out, at, b" lost ", lost as u64);
-    n = append_labelled(out, n, b" whole ", whole as u64);
-    append_labelled(out, n, b" cut ", cut as u64)
-}
-
-// The same with a rate, and the newline.
-fn append_rate(out: &mut [u8], at: usize, rate: Rate) -> usize
-    requires { at + 58 ≤ length out.old }
-    ensures value { result ≡ at + length (rate_part rate) }
-    ensures out_after { out.new ≡ take at out.old ++ over (drop at out.old) (rate_part rate) }
-{
-    let mut n = append_labelled(out, at, b" rate ", rate.rate);
-    n = append_labelled(out, n, b" remainder ", rate.remainder);
-    append(out, n, b"\n")
-}
-
-// The same with refused listings, by their number.
-fn append_refused(out: &mut [u8], at: usize, malformed: u32, unsynced: u32, many: u32) -> usize
-    requires { at + 93 ≤ length out.old }
-    ensures value { result ≡ at + length (refused_part malformed unsynced many) }
-    ensures out_after { out.new ≡ take at out.old ++ over (drop at out.old) (refused_part malformed unsynced many) }
-{
-    let mut n = append_labelled(out, at, b" refused21 ", malformed as u64);
-    n = append_labelled(out, n, b" refused22 ", unsynced as u64);
-    append_labelled(out, n, b" refused23 ", many as u64)
-}
-
-// The same with the line of a frame.
-fn append_frame(out: &mut [u8], at: usize, c: Coverage, frame: u32) -> usize
-    requires frame_bound { frame < 8 }
-    requires at_in_bounds { at + 243 ≤ length out.old }
-    ensures value { result ≡ at + length (frame_line c frame) }
-    ensures out_after { out.new ≡ take at out.old ++ over (drop at out.old) (frame_line c frame) }
-{
-    let words = c.frames;
-    let pages = c.pages;
-    let first = 4 * frame as usize;
-    let whole = 2 * frame as usize;
-    let mut n = append_labelled(out, at, b"frame ", frame as u64);
-    n = append_read(out, n, words[first], words[first + 1], words[first + 2]);
-    n = append_lost(out, n, words[first + 3], pages[whole], pages[whole + 1]);
-    append_rate(out, n, coverage::rate_of(c, frame))
-}
-
-// The same with the line of sync.
-fn append_sync(out: &mut [u8], at: usize, c: Coverage) -> usize
-    requires { at + 143 ≤ length out.old }
-    ensures value { result ≡ at + length (sync_line c) }
-    ensures out_after { out.new ≡ take at out.old ++ over (drop at out.old) (sync_line c) }
-{
-    let sync = c.sync;
-    let mut n = append(out, at, b"sync");
-    n = append_read(out, n, sync[0], sync[1], sync[2]);
-    append_rate(out, n, coverage::rate_of(c, 8))
-}
-
-// The same with the line of the listings.
-fn append_listings(out: &mut [u8], at: usize, c: Coverage) -> usize
-    requires { at + 123 ≤ length out.old }
-    ensures value { result ≡ at + length (listings_line c) }
-    ensures out_after { out.new ≡ take at out.old ++ over (drop at out.old) (listings_line c) }
-{
-    let refused = c.refused;
-    let mut n = append_labelled(out, at, b"listings ", c.listings as u64);
-    n = append_refused(out, n, refused[0], refused[1], refused[2]);
-    append(out, n, b"\n")
-}
-
-// Writes the lines of all frames over the front of a slice, and answers how many bytes they have.
-fn write_frames(c: Coverage, out: &mut [u8]) -> usize
-    requires { 1944 ≤ length out.old }
-    ensures value { result ≡ length (frame_lines c 8) }
-    ensures out_after { out.new ≡ over out.old (frame_lines c 8) }
-{
-    let mut n = 0;
-    let mut frame = 0;
-    while frame < 8 {
-        n = append_frame(out, n, c, frame);
-        frame += 1;
-    }
-    n
+    let mut line = Printed::new();
+    line.text(b"refused ");
+    line.number(u64::from(number));
+    line.text(b" place ");
+    line.number(place as u64);
+    line.position(number, position);
+    line.text(b"\n");
+    line.write(out)
 }
 
 // The same with a whole report.
@@ -285,9 +145,13 @@ fn write_coverage(c: Coverage, out: &mut [u8]) -> usize
     ensures value { result ≡ length (coverage_text c) }
     ensures out_after { out.new ≡ over out.old (coverage_text c) }
 {
-    let mut n = write_frames(c, out);
-    n = append_sync(out, n, c);
-    append_listings(out, n, c)
+    let mut report = Printed::new();
+    for frame in 0u32..8 {
+        report.frame(&c, frame);
+    }
+    report.sync(&c);
+    report.listings(&c);
+    report.write(out)
 }
 
 // What the sending program prints for its standard input, a job, with its phrase book, which is empty where there is none, over the front of

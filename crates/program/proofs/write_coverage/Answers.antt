@@ -1,23 +1,44 @@
--- `program::write_coverage` meets its contract. Assumes nothing.
-use mathlib.Core.List.{◌++◌}
-use native.Mathlib.Omega.{arith}
-use Rattle.program.specs.CoverageText.{frame_lines, sync_line, listings_line, coverage_text}
-use Rattle.program.proofs.PartLaws.{two_parts, at_front, from_front}
-use Rattle.program.proofs.CoverageLaws.{frames_short, sync_short}
+use Rattle.std.proofs.Common.{◌≡◌, List, ℕ, ◌++◌, length, length-append, append_assoc, ap, ◌∙◌, add-one, arith}
+use Rattle.program.specs.CoverageText.{frame_lines, frame_line, coverage_text}
+use Rattle.program.proofs.CoverageLaws.{frames_short, sync_short, listings_short}
 use Rattle.program.proofs.write_coverage.Goals as goal
 
-pub append_sync-n-requires : goal.append_sync-n-requires
-append_sync-n-requires c = let a = c.args in omega (arith, frames_short a.c 8)
+pub loop-frame-init : goal.loop-frame-init
+unfolding frame_lines
+loop-frame-init c = c.new-report.ensures
 
-pub append_listings-requires : goal.append_listings-requires
-append_listings-requires c = let a = c.args in omega (arith, frames_short a.c 8, sync_short a.c)
+pub frame-requires-clause-room : goal.frame-requires-clause-room
+frame-requires-clause-room c = let l = c.loop-frame in omega (arith, ap length l.invariant, frames_short c.args.c l.frame)
 
-pub returns : goal.returns
+pub loop-frame-preserved : goal.loop-frame-preserved
+unfolding frame_lines
+loop-frame-preserved c =
+    let l = c.loop-frame in
+    rw (add-one l.frame) (c.frame.ensures ∙ ap (λ (x : List ℕ). x ++ frame_line c.args.c l.frame) l.invariant)
+
+pub sync-requires : goal.sync-requires
+sync-requires c = let l = c.loop-frame in omega (arith, ap length l.invariant, frames_short c.args.c l.frame)
+
+pub listings-requires : goal.listings-requires
+listings-requires c = let l = c.loop-frame in grind (arith, length-append, ap length l.invariant, frames_short c.args.c l.frame, sync_short)
+
+pub write-requires : goal.write-requires
+write-requires c =
+    let l = c.loop-frame in
+    grind (arith, length-append, ap length l.invariant, frames_short c.args.c l.frame, sync_short, listings_short)
+
+pub returns-clause-value : goal.returns-clause-value
 unfolding coverage_text
-returns c =
-    let a = c.args in
-    let frames = frame_lines a.c 8 in
-    let rest = sync_line a.c ++ listings_line a.c in
-    let whole = from_front a.out.now (frames ++ rest)
-    (two_parts _ frames rest _ (at_front a.out.now frames (c.write_frames-n.ensures.value, c.write_frames-n.ensures.out_after))
-    (two_parts _ (sync_line a.c) (listings_line a.c) _ (c.append_sync-n.ensures.value, c.append_sync-n.ensures.out_after) (c.append_listings.ensures.value, c.append_listings.ensures.out_after))) in record { value = whole.0; out_after = whole.1 }
+returns-clause-value c =
+    let l = c.loop-frame in
+    let last : l.frame ≡ 8 = omega arith in
+    let frames : l.report ≡ frame_lines c.args.c 8 = rw last at l.invariant in
+    grind (arith, append_assoc, frames)
+
+pub returns-clause-out_after : goal.returns-clause-out_after
+unfolding coverage_text
+returns-clause-out_after c =
+    let l = c.loop-frame in
+    let last : l.frame ≡ 8 = omega arith in
+    let frames : l.report ≡ frame_lines c.args.c 8 = rw last at l.invariant in
+    grind (arith, append_assoc, frames)

@@ -1,35 +1,29 @@
 -- `program::write_refusal` meets its contract. Assumes nothing.
-use mathlib.Core.List.{[], ◌∷◌, ◌++◌}
-use native.Mathlib.Omega.{arith}
-use Rattle.program.specs.Decimal.{decimal}
-use Rattle.program.specs.Prints.{refused_word, place_word, position_part, refusal_line}
-use Rattle.program.proofs.PartLaws.{decimal_short, two_parts, from_front}
+use Rattle.std.proofs.Common.{arith, length-append, append_assoc}
+use Rattle.program.specs.Prints.{refusal_line}
+use Rattle.program.proofs.PartLaws.{decimal_short}
 use Rattle.program.proofs.RefusalLaws.{position_short}
 use Rattle.program.proofs.write_refusal.Goals as goal
 
-pub append-n-requires-2 : goal.append-n-requires-2
-append-n-requires-2 c = omega (arith, decimal_short c.args.number)
+pub text-requires-2 : goal.text-requires-2
+text-requires-2 c = grind (arith, length-append, decimal_short)
 
-pub append_decimal-n-requires-2 : goal.append_decimal-n-requires-2
-append_decimal-n-requires-2 c = omega (arith, decimal_short c.args.number)
+pub number-requires-2 : goal.number-requires-2
+number-requires-2 c = grind (arith, length-append, decimal_short)
 
-pub append_position-n-requires : goal.append_position-n-requires
-append_position-n-requires c = omega (arith, decimal_short c.args.number, decimal_short c.args.place)
+pub position-requires : goal.position-requires
+position-requires c = grind (arith, length-append, decimal_short)
 
-pub append-requires : goal.append-requires
-append-requires c =
-    let a = c.args in
-    omega (arith, decimal_short a.number, decimal_short a.place, position_short a.number a.position)
+pub text-requires-3 : goal.text-requires-3
+text-requires-3 c = grind (arith, length-append, decimal_short, position_short)
 
-pub returns : goal.returns
+pub write-requires : goal.write-requires
+write-requires c = grind (arith, length-append, decimal_short, position_short)
+
+pub returns-clause-value : goal.returns-clause-value
 unfolding refusal_line
-returns c =
-    let a = c.args in
-    let end = position_part a.number a.position ++ (10 ∷ []) in
-    let place = place_word ++ (decimal a.place ++ end) in
-    let whole = from_front a.out.now (refused_word ++ (decimal a.number ++ place))
-    (two_parts _ refused_word (decimal a.number ++ place) 0 (c.append-n.ensures.value, c.append-n.ensures.out_after)
-    (two_parts _ (decimal a.number) place _ (c.append_decimal-n.ensures.value, c.append_decimal-n.ensures.out_after)
-    (two_parts _ place_word (decimal a.place ++ end) _ (c.append-n-2.ensures.value, c.append-n-2.ensures.out_after)
-    (two_parts _ (decimal a.place) end _ (c.append_decimal-n-2.ensures.value, c.append_decimal-n-2.ensures.out_after)
-    (two_parts _ (position_part a.number a.position) (10 ∷ []) _ (c.append_position-n.ensures.value, c.append_position-n.ensures.out_after) (c.append.ensures.value, c.append.ensures.out_after)))))) in record { value = whole.0; out_after = whole.1 }
+returns-clause-value c = grind (arith, append_assoc)
+
+pub returns-clause-out_after : goal.returns-clause-out_after
+unfolding refusal_line
+returns-clause-out_after c = grind (arith, append_assoc)
