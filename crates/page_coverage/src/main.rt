@@ -5,46 +5,40 @@
 use coverage::{Adding, Covered};
 use std::rt::{Env, Files};
 
-// What the files so far add up to, and whether the last one can't be read.
-#[derive(Clone, Copy)]
-struct Fed {
-    failed: bool,
+// Adds the listing of a file to what the files before it add up to; none where it can't be read, which standard error is told.
+fn add_file<R: Files, E: Print>(
+    rt: &R,
+    stderr: &E,
     covered: Covered,
-}
-
-// Adds the listing of a file; where it can't be read, standard error is told its name.
-fn add_file<R: Files, E: Print>(rt: &R, stderr: &E, covered: Covered, path: &[u8]) -> Fed {
+    path: &[u8],
+) -> Option<Covered> {
     let mut bytes = [0u8; 65536];
-    let read = program::read_file(rt, path, &mut bytes);
-    if read.failed {
+    let Ok(n) = program::read_file(rt, path, &mut bytes) else {
         let _ = stderr.write_all(b"page_coverage: ");
         let _ = stderr.write_all(path);
         let _ = stderr.write_all(b" can't be read\n");
-        return Fed {
-            failed: true,
-            covered: covered,
-        };
-    }
-    let next = coverage::add(covered.coverage, &bytes[..read.bytes]);
-    Fed {
-        failed: false,
-        covered: next,
-    }
+        return None;
+    };
+    Some(coverage::add(covered.coverage, &bytes[..n]))
 }
 
 // Adds the listing of the file that an argument names.
-fn add_argument<R: Env + Files, E: Print>(rt: &R, stderr: &E, covered: Covered, i: usize) -> Fed {
-    // An argument that is empty or doesn't fit has length 0.
+fn add_argument<R: Env + Files, E: Print>(
+    rt: &R,
+    stderr: &E,
+    covered: Covered,
+    i: usize,
+) -> Option<Covered> {
     let mut path = [0u8; 4095];
-    let n = program::argument(rt, i, &mut path);
-    if n == 0 {
-        let _ = stderr.write_all(b"page_coverage: a file's name is empty or over 4,095 bytes\n");
-        return Fed {
-            failed: true,
-            covered: covered,
-        };
+    match program::argument(rt, i, &mut path) {
+        Some(n) if 0 < n => add_file(rt, stderr, covered, &path[..n]),
+        _ => {
+            let _ = stderr.write_all(
+                b"page_coverage: a file's name is empty or over 4,095 bytes\n",
+            );
+            None
+        }
     }
-    add_file(rt, stderr, covered, &path[..n])
 }
 
 // Prints what all files add up to.
@@ -58,19 +52,15 @@ fn print_report<R: Print + Eprint>(rt: &R, covered: Covered) {
 }
 
 fn main(rt: HostRuntime) {
-    let files = program::argument_count(&rt);
     let mut covered = Covered {
         answer: Adding::Added,
         coverage: coverage::empty(),
     };
-    let mut i = 1;
-    while i < files {
-        let fed = add_argument(&rt, &rt.stderr(), covered, i);
-        if fed.failed {
+    for i in 1..program::argument_count(&rt) {
+        let Some(next) = add_argument(&rt, &rt.stderr(), covered, i) else {
             return;
-        }
-        covered = fed.covered;
-        i += 1;
+        };
+        covered = next;
     }
     print_report(&rt, covered);
 }

@@ -8,17 +8,11 @@ use std::rt::Env;
 
 // Follows the identity through the listing on standard input.
 fn follow_input<R: Input + Print + Eprint>(rt: &R, identity: u32) {
-    let mut input = [0u8; 65537];
-    let read = program::read_input(&mut rt.reader(), &mut input);
-    if read.failed {
-        let _ = eprintln!(rt; "page_follow: standard input can't be read");
-        return;
-    }
-    let mut out = [0u8; 48000];
-    let n = program::follow(identity, &input[..read.bytes], &mut out);
-    if rt.write_all(&out[..n]).is_err() {
-        let _ = eprintln!(rt; "page_follow: standard output can't be written");
-    }
+    program::run(rt, "page_follow", |input| {
+        let mut out = [0u8; 48000];
+        let n = program::follow(identity, input, &mut out);
+        rt.write_all(&out[..n])
+    });
 }
 
 // The identity of the one argument there must be.
@@ -26,9 +20,10 @@ fn named<E: Env>(env: &E) -> HexWord {
     if program::argument_count(env) != 2 {
         return HexWord::NotHex;
     }
-    // An argument that doesn't fit has length 0.
     let mut argument = [0u8; 6];
-    let n = program::argument(env, 1, &mut argument);
+    let Some(n) = program::argument(env, 1, &mut argument) else {
+        return HexWord::NotHex;
+    };
     program::identity(&argument[..n])
 }
 

@@ -5,15 +5,9 @@
 use codeword::Engine;
 
 fn main(rt: HostRuntime) {
-    let mut input = [0u8; 65537];
-    let read = program::read_input(&mut rt.stdin(), &mut input);
-    if read.failed {
-        let _ = eprintln!(rt; "page_read_slow: standard input can't be read");
-        return;
-    }
-    let mut out = [0u8; 48000];
-    let n = program::read(Engine::Slow, &input[..read.bytes], &mut out);
-    if rt.write_all(&out[..n]).is_err() {
-        let _ = eprintln!(rt; "page_read_slow: standard output can't be written");
-    }
+    program::run(&rt, "page_read_slow", |input| {
+        let mut out = [0u8; 48000];
+        let n = program::read(Engine::Slow, input, &mut out);
+        rt.write_all(&out[..n])
+    });
 }

@@ -1,3 +1,4 @@
+pub mod Input
 pub mod Decimal
 pub mod CoverageText
 pub mod Prints

@@ -4,14 +4,14 @@
 // `coverage::add`, and the few lines around it that read and write.
 #![tactic(auto)]
 
-ghost use Rattle.std.specs.Prelude.{◌≡◌, false, ◌++◌, ◌+◌, ◌≤◌, ◌<◌, length, take, drop};
+ghost use Rattle.std.specs.Prelude.{◌≡◌, ◌+◌, ◌≤◌, ◌<◌, length, take, IfOk, IfSome};
 ghost use Rattle.std.specs.Io.KnownBytes.{Consumes, IsAtEnd};
 ghost use Rattle.io.specs.Counts.{IsPrefixLen};
 ghost use Rattle.base.specs.Lists.{over};
 ghost use Rattle.job.specs.Submission.{with_book};
-ghost use Rattle.program.specs.Decimal.{decimal};
-ghost use Rattle.program.specs.CoverageText.{labelled, read_part, lost_part, rate_part, refused_part, frame_line, frame_lines, sync_line, listings_line, coverage_text};
-ghost use Rattle.program.specs.Prints.{is_long, position_part, refusal_line, send_prints, read_prints, follow_prints, receive_prints, cover_prints, identity_named};
+ghost use Rattle.program.specs.Input.{bytes_read};
+ghost use Rattle.program.specs.CoverageText.{coverage_text};
+ghost use Rattle.program.specs.Prints.{is_long, refusal_line, send_prints, read_prints, follow_prints, receive_prints, cover_prints, identity_named};
 
 use base::HexWord;
 use codeword::Engine;
@@ -22,50 +22,43 @@ use printed::Printed;
 use reader::Reading;
 use receiver::Receiving;
 use std::env::FillError;
-use std::io::Read;
+use std::io::{Input, Read};
 use std::rt::{Env, Files};
-use std::{fs, str};
+use std::{fs, io, str};
 
 mod printed;
 
-// What was read of standard input or of a file: how many bytes, and whether it can't be read.
-#[derive(Clone, Copy)]
-pub struct Input {
+// A read failed, or a file can't be opened: behind so many bytes.
+#[derive(Clone, Copy, Debug, PartialEq, Eq)]
+pub struct Unread {
     pub bytes: usize,
-    pub failed: bool,
 }
 
 // Reads up to the reader's end, or until the slice is full or a read fails. Where the reader's bytes are known, those that it gave stand at
 // the front, and are all where the slice isn't full and no read failed; of standard input and of files no contract can say which they are.
-fn read_into<R: Read>(reader: &mut R, input: &mut [u8]) -> Input
-    ensures in_bounds { IsPrefixLen result.bytes input.new }
-    ensures bytes { Consumes (R.remaining reader.old) (R.remaining reader.new) (take result.bytes input.new) }
-    ensures end { result.failed ≡ false → result.bytes < length input.new → IsAtEnd (R.remaining reader.new) }
+fn read_into<R: Read>(reader: &mut R, input: &mut [u8]) -> Result<usize, Unread>
+    ensures in_bounds { IsPrefixLen (bytes_read result) input.new }
+    ensures bytes { Consumes (R.remaining reader.old) (R.remaining reader.new) (take (bytes_read result) input.new) }
+    ensures end { IfOk result (λ n. n < length input.new → IsAtEnd (R.remaining reader.new)) }
 {
     let mut n = 0;
     while n < input.len() {
         let Ok(more) = reader.read(&mut input[n..]) else {
-            return Input {
-                bytes: n,
-                failed: true,
-            };
+            return Err(Unread { bytes: n });
         };
         if more == 0 {
             break;
         }
         n += more;
     }
-    Input {
-        bytes: n,
-        failed: false,
-    }
+    Ok(n)
 }
 
 // Reads standard input. There is room for one byte more than an input may have, so that a longer one is told.
-pub fn read_input<R: Read>(reader: &mut R, input: &mut [u8; 65537]) -> Input
-    ensures in_bounds { IsPrefixLen result.bytes input.new }
-    ensures bytes { Consumes (R.remaining reader.old) (R.remaining reader.new) (take result.bytes input.new) }
-    ensures end { result.failed ≡ false → result.bytes < 65537 → IsAtEnd (R.remaining reader.new) }
+pub fn read_input<R: Read>(reader: &mut R, input: &mut [u8; 65537]) -> Result<usize, Unread>
+    ensures in_bounds { IsPrefixLen (bytes_read result) input.new }
+    ensures bytes { Consumes (R.remaining reader.old) (R.remaining reader.new) (take (bytes_read result) input.new) }
+    ensures end { IfOk result (λ n. n < 65537 → IsAtEnd (R.remaining reader.new)) }
 {
     read_into(reader, input)
 }
@@ -73,27 +66,31 @@ pub fn read_input<R: Read>(reader: &mut R, input: &mut [u8; 65537]) -> Input
 // Reads a file, which fails where it can't be opened or read, and where its name is no UTF-8. Of a long one only the first 65,536 bytes are
 // read: of a phrase book what stands behind the first 48,101 changes nothing (specs/BookFront.antt), of a listing what stands behind the
 // first 46,557 (specs/ListingFront.antt).
-pub fn read_file<R: Files>(files: &R, path: &[u8], bytes: &mut [u8; 65536]) -> Input
-    ensures { IsPrefixLen result.bytes bytes.new }
+pub fn read_file<R: Files>(files: &R, path: &[u8], bytes: &mut [u8; 65536]) -> Result<usize, Unread>
+    ensures { IsPrefixLen (bytes_read result) bytes.new }
 {
     let opened = match str::from_utf8(path) {
         Ok(path) => fs::open(files, path).ok(),
         Err(_) => None,
     };
     let Some(mut file) = opened else {
-        return Input {
-            bytes: 0,
-            failed: true,
-        };
+        return Err(Unread { bytes: 0 });
     };
     read_into(&mut file, bytes)
 }
 
-// Reads the phrase book of a file, as any file is read.
-pub fn read_book<R: Files>(files: &R, path: &[u8], book: &mut [u8; 65536]) -> Input
-    ensures { IsPrefixLen result.bytes book.new }
+// Reads standard input and has it printed. Where the one can't be read or the other fails, standard error is told by the program's name.
+pub fn run<R: Input + Eprint, F: FnOnce(&[u8]) -> io::Result<()>>(rt: &R, name: &str, print: F)
+    requires { F.IsAlwaysCallable print }
 {
-    read_file(files, path, book)
+    let mut input = [0u8; 65537];
+    let Ok(n) = read_input(&mut rt.reader(), &mut input) else {
+        let _ = eprintln!(rt; "{name}: standard input can't be read");
+        return;
+    };
+    if print(&input[..n]).is_err() {
+        let _ = eprintln!(rt; "{name}: standard output can't be written");
+    }
 }
 
 // How many arguments a program was given, its own name among them.
@@ -106,14 +103,11 @@ pub fn argument_count<E: Env>(env: &E) -> usize {
     usize::MAX
 }
 
-// Writes an argument over the front of a slice, and answers how many bytes it has: 0 where there is none, or where it doesn't fit.
-pub fn argument<E: Env>(env: &E, i: usize, out: &mut [u8]) -> usize
-    ensures { IsPrefixLen result out.new }
+// Writes an argument over the front of a slice, and answers how many bytes it has; none where there is no such argument, or it doesn't fit.
+pub fn argument<E: Env>(env: &E, i: usize, out: &mut [u8]) -> Option<usize>
+    ensures { IfSome result (λ n. IsPrefixLen n out.new) }
 {
-    match env.arg(i, out) {
-        Ok(n) => n,
-        Err(_) => 0,
-    }
+    env.arg(i, out).ok()
 }
 
 // Whether an input is over 65,536 bytes: number 24.
