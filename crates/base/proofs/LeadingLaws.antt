@@ -9,8 +9,14 @@ use native.Mathlib.Numerals.{add-one}
 use native.Mathlib.Omega.{arith}
 use lib.ListN.{length, get_or, take, drop, drop_of_length-le}
 use lib.Seq.{drop-cons}
+use Rattle.std.specs.List.{prefix_len}
 use Rattle.base.specs.Leading.{leading}
 use Rattle.base.proofs.Bools.{either}
+
+-- what the library counts
+pub leading_prefix : (p : ℕ → Bool) (s : List ℕ) → prefix_len p s ≡ leading p s
+leading_prefix p [] = refl
+leading_prefix p (b ∷ s) = ⊎_elim (λ e. rw e (omega (arith, leading_prefix p s))) (λ e. rw e) (either (p b))
 
 module _ (p : ℕ → Bool) (s : List ℕ) (i : ℕ) where
   -- one more passes

@@ -70,14 +70,7 @@ pub fn hex_digit(v: u32) -> u8
 pub fn hex_run(s: &[u8]) -> usize
     ensures { result ≡ leading is_hex s.now }
 {
-    let mut i = 0;
-    while i < s.len() {
-        if !is_hex(s[i]) {
-            return i;
-        }
-        i += 1;
-    }
-    i
+    s.iter().take_while(|&&b| is_hex(b)).count()
 }
 
 // The number that the digits of the slice write, its low 32 bits where there are more than eight.
@@ -85,10 +78,8 @@ pub fn hex_number(s: &[u8]) -> u32
     ensures { result ≡ hex_number 0 s.now % 2 ^ 32 }
 {
     let mut n: u32 = 0;
-    let mut i = 0;
-    while i < s.len() {
-        n = n % 268435456 * 16 + hex_value(s[i]) as u32;
-        i += 1;
+    for b in s {
+        n = n % 268435456 * 16 + u32::from(hex_value(*b));
     }
     n
 }
@@ -116,11 +107,9 @@ pub fn write_digits(out: &mut [u8], number: u32)
     ensures { out.new ≡ digits_of (length out.old) number }
 {
     let mut rest = number;
-    let mut i = out.len();
-    while 0 < i {
-        i -= 1;
+    for i in (0..out.len()).rev() {
         out[i] = hex_digit(rest);
-        rest = rest / 16;
+        rest /= 16;
     }
 }
 
@@ -138,18 +127,10 @@ pub fn pair_byte(pairs: &[u8], k: usize, fill: u8) -> u8
 }
 
 // Where the line that starts at an index ends: the index of its newline, or of the end where there is none.
-#[tactic(auto, using(crate::proofs::LinesLaws::newline_here))]
 pub fn line_end(s: &[u8], at: usize) -> usize
     ensures { result ≡ line_end s.now at }
 {
-    let mut i = at;
-    while i < s.len() {
-        if s[i] == b'\n' {
-            return i;
-        }
-        i += 1;
-    }
-    i
+    at + s.iter().skip(at).take_while(|&&b| b != b'\n').count()
 }
 
 // A part of a slice, no copy: so many bytes from start on, or what is left of them.

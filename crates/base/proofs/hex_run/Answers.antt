@@ -1,14 +1,17 @@
-use mathlib.Core.Path.{sym, ◌∙◌}
-use native.Mathlib.Omega.{arith}
+-- `base::hex_run` meets its contract. Assumes nothing.
+use mathlib.Core.Path.{◌∙◌}
+use Rattle.std.proofs.Common.{rules, tests}
+use Rattle.std.proofs.lemmas.Iterator.{YieldsList-from_slice}
+use Rattle.std.proofs.lemmas.Iterator.Consumers.{count_from_yields_List}
+use Rattle.std.proofs.lemmas.Iterator.Search.{YieldsList-from_take_while}
+use Rattle.std.proofs.lemmas.List.Folds.{length-prefix_len}
 use Rattle.base.specs.Hex.{is_hex}
-use Rattle.base.proofs.LeadingLaws.{leading_more, leading_stop, leading_end}
+use Rattle.base.proofs.LeadingLaws.{leading_prefix}
 use Rattle.base.proofs.hex_run.Goals as goal
 
-pub returns-then-not-is_hex : goal.returns-then-not-is_hex
-returns-then-not-is_hex c = omega (arith, leading_stop is_hex c.args.s.now c.loop-i.i (omega arith) (sym c.is_hex.ensures ∙ c.if-not-is_hex.true))
-
-pub loop-i-preserved : goal.loop-i-preserved
-loop-i-preserved c = omega (arith, leading_more is_hex c.args.s.now c.loop-i.i (omega arith) (sym c.is_hex.ensures ∙ c.if-not-is_hex.false))
-
 pub returns : goal.returns
-returns c = omega (arith, leading_end is_hex c.args.s.now c.loop-i.i c.loop-i-test.false)
+returns c =
+    count_from_yields_List c.take_while.result _ c.count.ensures.ran
+    (YieldsList-from_take_while _ is_hex (YieldsList-from_slice c.args.s.now cc) c.take_while.ensures.closure c.take_while.ensures.done (λ x b q k. search (rules, tests)))
+    ∙ length-prefix_len is_hex c.args.s.now
+    ∙ leading_prefix is_hex c.args.s.now

@@ -1,4 +1,4 @@
-use mathlib.Core.Path.{◌≡◌, refl, sym, ap, ◌∙◌}
+use mathlib.Core.Path.{◌≡◌, sym, ap, ◌∙◌}
 use mathlib.Core.List.{List}
 use Prim.Native.Nat.{ℕ, suc, ◌-◌, ◌/◌, ◌%◌, ◌^◌, ◌<◌}
 use native.Mathlib.Nat.{div-one}
@@ -20,7 +20,7 @@ unfolding digits_of
 loop-i-init c =
     let out = c.args.out.now in
     let none : length out - length out ≡ 0 = omega arith in
-    (refl, omega arith, rw none (sym (div-one c.args.number)), rw none (drop_of_length-le out {i = length out} (omega arith)))
+    (rw none (sym (div-one c.args.number)), rw none (drop_of_length-le out {i = length out} (omega arith)))
 
 pub loop-i-preserved : goal.loop-i-preserved
 loop-i-preserved c =
@@ -31,11 +31,9 @@ loop-i-preserved c =
     let j = l.i - 1 in
     let more : length out₀ - j ≡ suc k = omega arith in
     let next : suc j ≡ l.i = omega arith in
-    let digit : c.hex_digit.result ≡ digit_of (n / 16 ^ k % 16) = c.hex_digit.ensures ∙ ap (λ (x : ℕ). digit_of (x % 16)) l.invariant.2 in (
-      length-set l.out j c.hex_digit.result ∙ l.invariant.0,
-      omega arith,
-      rw (more, l.invariant.2) (shift_digit k n),
-      rw more (front l.out j c.hex_digit.result k n (omega arith) (rw next l.invariant.3) digit),
+    let digit : c.hex_digit.result ≡ digit_of (n / 16 ^ k % 16) = c.hex_digit.ensures ∙ ap (λ (x : ℕ). digit_of (x % 16)) l.invariant.0 in (
+      rw (more, l.invariant.0) (shift_digit k n),
+      rw more (front l.out j c.hex_digit.result k n (omega arith) (rw next l.invariant.1) digit),
     )
 
 pub returns : goal.returns
@@ -43,4 +41,4 @@ returns c =
     let l = c.loop-i in
     let none : l.i ≡ 0 = omega arith in
     let all : length c.args.out.now - 0 ≡ length c.args.out.now = omega arith in
-    rw (none, all) at l.invariant.3
+    rw (none, all) at l.invariant.1

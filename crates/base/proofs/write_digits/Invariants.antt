@@ -7,7 +7,4 @@ use Rattle.base.specs.Hex.{digits_of}
 use Rattle.base.proofs.write_digits.Given as goal
 
 abbrev pub invariant-loop-i : goal.invariant-loop-i
-invariant-loop-i l = (length l.out ≡ length l.initial.out) × (l.i ≤ length l.initial.out) × (l.rest ≡ l.number / 16 ^ (length l.initial.out - l.i)) × (drop l.i l.out ≡ digits_of (length l.initial.out - l.i) l.number)
-
-abbrev pub decreases-loop-i : goal.decreases-loop-i
-decreases-loop-i l = l.i
+invariant-loop-i l = (l.rest ≡ l.number / 16 ^ (length l.initial.out - l.i)) × (drop l.i l.out ≡ digits_of (length l.initial.out - l.i) l.number)
