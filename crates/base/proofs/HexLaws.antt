@@ -14,7 +14,7 @@ use borrow.Author.Tests.{leb-true, leb-false, le-leb, lt-leb, lt-ltb, eq-eqb, ne
 use Rattle.base.specs.Hex.{between, is_hex, hex_of, digit_value, digit_of, hex_number, hex_word, digits_of, bytes_of, pairs_of}
 use Rattle.base.specs.Leading.{leading}
 use Rattle.base.specs.Lists.{Begins, has}
-use Rattle.base.specs.declared.HexWord.TheVariants.{Number, NotHex}
+use Rattle.std.specs.Prelude.{Some, None}
 use Rattle.base.proofs.Bools.{either, and_true, and_both, true_false}
 use Rattle.base.proofs.LeadingLaws.{leading_cons}
 
@@ -153,16 +153,16 @@ pub number_fits : (s : List ℕ) → length s ≤ 8 → hex_number 0 s % 2 ^ 32 
 number_fits s h = omega (arith, number_lt 0 s, pow-le-pow_right {n = 16} (omega arith) {i = length s} {j = 8} h)
 
 -- all are digits, or not
-pub word_number : (s : List ℕ) {n : ℕ} → leading is_hex s ≡ length s → n ≡ hex_number 0 s % 2 ^ 32 → Number n ≡ hex_word s
+pub word_number : (s : List ℕ) {n : ℕ} → leading is_hex s ≡ length s → n ≡ hex_number 0 s % 2 ^ 32 → Some n ≡ hex_word s
 unfolding hex_word
 word_number s e f = rw (eq-eqb (leading is_hex s) (length s) e, f)
 
-pub word_none : (s : List ℕ) → (leading is_hex s ≡ length s → ⊥) → NotHex ≡ hex_word s
+pub word_none : (s : List ℕ) → (leading is_hex s ≡ length s → ⊥) → None ≡ hex_word s
 unfolding hex_word
 word_none s h = rw (ne_eqb (leading is_hex s) (length s) h)
 
 -- and what the answer says of the bytes
-pub number_word : (s : List ℕ) (n : ℕ) → hex_word s ≡ Number n → (leading is_hex s ≡ length s) × (n ≡ hex_number 0 s % 2 ^ 32)
+pub number_word : (s : List ℕ) (n : ℕ) → hex_word s ≡ Some n → (leading is_hex s ≡ length s) × (n ≡ hex_number 0 s % 2 ^ 32)
 unfolding hex_word
 number_word s n e =
     ⊎_elim
@@ -170,7 +170,7 @@ number_word s n e =
     (λ (t : eqb (leading is_hex s) (length s) ≡ false). let f = rw t at e in absurd (let z : ◌≡◌ {A = ℕ} 0 1 = cc in omega arith))
     (either (eqb (leading is_hex s) (length s)))
 
-pub none_word : (s : List ℕ) → hex_word s ≡ NotHex → leading is_hex s ≡ length s → ⊥
+pub none_word : (s : List ℕ) → hex_word s ≡ None → leading is_hex s ≡ length s → ⊥
 none_word s e all = let f = word_number s all refl in let z : ◌≡◌ {A = ℕ} 0 1 = cc in omega arith
 
 pub shift_digit : (k n : ℕ) → n / 16 ^ k / 16 ≡ n / 16 ^ suc k

@@ -1,8 +1,6 @@
 -- Upper-case hexadecimal digits, as all lines of document 01 are written in, and bytes as pairs of them.
-use Rattle.std.specs.Prelude.{ℕ, zero, suc, ◌+◌, ◌-◌, ◌*◌, ◌/◌, ◌%◌, ◌^◌, List, [], ◌∷◌, Bool, cond, ◌&&◌, ◌||◌, leb, eqb, length}
+use Rattle.std.specs.Prelude.{ℕ, zero, suc, ◌+◌, ◌-◌, ◌*◌, ◌/◌, ◌%◌, ◌^◌, List, [], ◌∷◌, Bool, cond, ◌&&◌, ◌||◌, leb, eqb, length, Option, Some, None}
 use Rattle.base.specs.Leading.{leading}
-use Rattle.base.specs.declared.HexWord.{HexWord}
-use Rattle.base.specs.declared.HexWord.TheVariants.{Number, NotHex}
 
 -- lo to hi, both counted
 abbrev pub between : ℕ → ℕ → ℕ → Bool
@@ -30,8 +28,8 @@ hex_number n [] = n
 hex_number n (b ∷ s) = hex_number (n * 16 + hex_of b) s
 
 -- the number that bytes write, its low 32 bits where there are more than eight; none where one of them is no digit
-unfoldable pub hex_word : List ℕ → HexWord
-hex_word s = cond (eqb (leading is_hex s) (length s)) (Number (hex_number 0 s % 2 ^ 32)) NotHex
+unfoldable pub hex_word : List ℕ → Option ℕ
+hex_word s = cond (eqb (leading is_hex s) (length s)) (Some (hex_number 0 s % 2 ^ 32)) None
 
 -- the k lowest digits of a number, the most significant first
 unfoldable pub digits_of : ℕ → ℕ → List ℕ

@@ -7,17 +7,8 @@ ghost use Rattle.base.specs.Leading.{leading};
 ghost use Rattle.base.specs.Lines.{line_end};
 ghost use Rattle.base.specs.Part.{PointsInto};
 
-// What a slice of bytes writes.
-#[derive(Clone, Copy)]
-pub enum HexWord {
-    // All are digits, and they write this number.
-    Number(u32),
-    // One of them is no digit.
-    NotHex,
-}
-
 // The value of an upper-case hexadecimal digit; 16 for any other byte. One arm a digit: a table, where two ranges would be branches
-// that no processor foresees.
+// that no processor foresees. 16 and no Option: with it `text::char_run` is a jump by each digit, 0.84 of two mispredicted (callgrind).
 #[tactic(auto, unfolding(crate::specs::Hex::digit_value, crate::specs::Hex::is_hex, crate::specs::Hex::hex_of))]
 pub fn digit_value(b: u8) -> u8
     ensures { result ≡ digit_value b }
@@ -86,20 +77,18 @@ pub fn hex_number(s: &[u8]) -> u32
 
 // The number that the slice writes, its low 32 bits where there are more than eight digits; none where a byte is no digit. Each byte is
 // read once.
-pub fn hex_word(s: &[u8]) -> HexWord
+pub fn hex_word(s: &[u8]) -> Option<u32>
     ensures { result ≡ hex_word s.now }
 {
     let mut n: u32 = 0;
-    let mut i = 0;
-    while i < s.len() {
-        let d = digit_value(s[i]);
+    for b in s {
+        let d = digit_value(*b);
         if d == 16 {
-            return HexWord::NotHex;
+            return None;
         }
-        n = n % 268435456 * 16 + d as u32;
-        i += 1;
+        n = n % 268435456 * 16 + u32::from(d);
     }
-    HexWord::Number(n)
+    Some(n)
 }
 
 // Fills the slice with the lowest digits of a number, the most significant first.
