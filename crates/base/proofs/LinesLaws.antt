@@ -6,15 +6,14 @@ use mathlib.Core.Bool.{true, false}
 use mathlib.Core.Logic.{⊎_elim}
 use native.Mathlib.Nat.{eq-or-lt_of_le}
 use native.Mathlib.Omega.{arith}
-use lib.ListN.{length, get_or, take, drop, length-drop, drop_of_length-le}
+use lib.ListN.{length, take, drop, length-drop, drop_of_length-le}
 use lib.Seq.{length-take-le, drop-drop}
 use lib.Dec.{eqb}
-use borrow.Author.Tests.{eq-eqb}
 use Rattle.base.specs.Leading.{leading}
 use Rattle.base.specs.Lists.{has}
 use Rattle.base.specs.Lines.{behind, line, split, line_at, line_count, line_start, not_newline, line_end}
 use Rattle.base.proofs.Bools.{either, or_false}
-use Rattle.base.proofs.LeadingLaws.{leading_le, leading_take, leading_stop}
+use Rattle.base.proofs.LeadingLaws.{leading_le, leading_take}
 
 -- the first line of a text that has a newline
 split_line : (s : List ℕ) → leading not_newline s < length s → split s ≡ line (take (leading not_newline s) s) (split (drop (suc (leading not_newline s)) s))
@@ -103,7 +102,3 @@ line_there (suc p) s h =
     let rest = drop (line_end s 0 + 1) s in
     let e : line_end s 0 + 1 + line_start p (split rest) ≡ length (first s 0) + 1 + line_start p (split rest) = omega (arith, first_length s 0 c) in
     rw (cut s 0 c, ← e, ← drop-drop (line_start p (split rest)) (line_end s 0 + 1) s) (line_there p rest (omega (arith, ap line_count (cut s 0 c))))
-
--- where a newline stands, the line ends
-pub newline_here : (s : List ℕ) (i : ℕ) → i < length s → get_or s i 0 ≡ 10 → leading not_newline (drop i s) ≡ 0
-newline_here s i h e = leading_stop not_newline s i h (ap mathlib.Core.Bool.not (eq-eqb (get_or s i 0) 10 e))

@@ -8,7 +8,7 @@ use native.Mathlib.Numerals.{add-one}
 use native.Mathlib.Omega.{arith}
 use lib.Dec.{eqb}
 use lib.ListN.{length, set, get_or, take, drop, replicate, length-take, length-drop, length-append, drop_of_length-le}
-use lib.Seq.{take_all, take-length, take-nil, drop-cons, drop-drop, append_snoc, take-append_seam, drop-append_seam, set-append_seam, get_or_at, length-take-le}
+use lib.Seq.{take_all, take-nil, drop-cons, drop-drop, append_snoc, take-append_seam, drop-append_seam, set-append_seam, get_or_at, length-take-le}
 use Rattle.base.specs.Lists.{over, tab, padded, has}
 
 -- a part that goes to the end of its slice
@@ -171,7 +171,12 @@ module _ (f : ℕ → ℕ) (n : ℕ) (old : List ℕ) (size : length old ≡ n) 
   pub tab_full : i ≡ n → l ≡ tab f n
   tab_full q = e ∙ rw (q ∙ sym (tab-length f n), filled_over old (tab f n)) (over_all_lem old (tab f n) (omega (arith, tab-length f n)))
 
--- ---- a text that stands at the front of a buffer, and is copied from there over the front of another
+-- ---- a text that is copied over the front of a buffer
+
+pub copied : (old : List ℕ) {text front : List ℕ} {n : ℕ} → n ≡ length text → front ≡ text → front ++ drop n old ≡ over old text
+copied old size e = ap₂ (λ (t : List ℕ) (n : ℕ). t ++ drop n old) e size
+
+-- and one that stands at the front of another
 
 module _ {text : List ℕ} (buffer : List ℕ) {n : ℕ} (size : n ≡ length text) (stands : take n buffer ≡ text) where
   pub stands_inside : n ≤ length buffer
@@ -179,6 +184,3 @@ module _ {text : List ℕ} (buffer : List ℕ) {n : ℕ} (size : n ≡ length te
 
   pub stands_size : n ≡ length (take n buffer)
   stands_size = size ∙ sym (ap length stands)
-
-  pub stands_copied : (old : List ℕ) {out : List ℕ} → out ≡ take (length (take n buffer)) (take n buffer) ++ drop (length (take n buffer)) old → out ≡ over old text
-  stands_copied old e = e ∙ ap (λ (t : List ℕ). t ++ drop (length (take n buffer)) old) (take-length (take n buffer)) ∙ ap (over old) stands

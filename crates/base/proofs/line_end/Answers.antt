@@ -18,6 +18,6 @@ returns c =
     let rest = drop c.args.at c.args.s.now in
     ap (λ (n : ℕ). c.args.at + n)
     (count_from_yields_List c.take_while.result _ c.count.ensures.ran
-      (YieldsList-from_take_while _ not_newline (YieldsList-from_skip c.args.at (YieldsList-from_slice c.args.s.now cc) cc) c.take_while.ensures.closure c.take_while.ensures.done (λ x b q k. search (rules, tests)))
+    (YieldsList-from_take_while _ not_newline (YieldsList-from_skip c.args.at (YieldsList-from_slice c.args.s.now cc) cc) c.take_while.ensures.closure c.take_while.ensures.done (λ x b q k. search (rules, tests)))
     ∙ length-prefix_len not_newline rest
     ∙ leading_prefix not_newline rest)

@@ -1,7 +1,7 @@
 -- `base::write_digits` meets its contract. The invariant: from i on stand the lowest digits, and the rest is the number without them.
 -- Assumes nothing.
 use mathlib.Core.Path.{◌≡◌}
-use Prim.Native.Nat.{◌-◌, ◌/◌, ◌^◌, ◌≤◌}
+use Prim.Native.Nat.{◌-◌, ◌/◌, ◌^◌}
 use lib.ListN.{length, drop}
 use Rattle.base.specs.Hex.{digits_of}
 use Rattle.base.proofs.write_digits.Given as goal
