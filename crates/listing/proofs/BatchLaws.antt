@@ -1,5 +1,6 @@
 -- How the lines of a listing go on, one at a time, and the numbers of a well-formed one. Assumes nothing.
-use Prim.Native.Nat.{ℕ, zero, suc, ◌+◌, ◌-◌, ◌*◌, ◌/◌, ◌%◌, ◌≤◌, ◌<◌}
+use Rattle.std.proofs.Common.{one-add}
+use Prim.Native.Nat.{ℕ, zero, suc, ◌+◌, ◌*◌, ◌/◌, ◌%◌, ◌≤◌, ◌<◌}
 use mathlib.Core.Path.{◌≡◌, refl, ap, sym, ◌∙◌}
 use mathlib.Core.List.{List, [], ◌++◌, append-nil}
 use mathlib.Core.Bool.{Bool, true, false, cond, ◌&&◌}
@@ -8,11 +9,14 @@ use native.Mathlib.Nat.{eq-or-lt_of_le}
 use native.Mathlib.Omega.{arith}
 use borrow.Author.Tests.{eq-eqb, ne_eqb, eqb-true, eqb-false, lt-ltb, le-ltb, ltb-true, ltb-false}
 use lib.Dec.{eqb, ltb}
-use lib.ListN.{length, drop, length-drop}
+use lib.ListN.{length, take, drop, length-drop}
 use lib.Seq.{drop-drop}
+use Rattle.std.specs.List.{prefix_len}
+use Rattle.std.specs.Simd.{first_chunks}
 use Rattle.base.specs.Lines.{Lines, behind, line, split, line_at}
 use Rattle.base.proofs.Bools.{either, and_true, and_false}
 use Rattle.base.proofs.LinesLaws.{none_left}
+use Rattle.base.proofs.SearchLaws.{le_or_lt}
 use Rattle.listing.specs.Listing.{has_one, has_two, frames_in, preamble_of, skip, is_due, is_whole, batches, listing_of}
 use Rattle.listing.specs.Words.{line_words, words_in, batch_words, words_of}
 use Rattle.listing.specs.Formed.{Limits}
@@ -21,7 +25,7 @@ use Rattle.listing.specs.declared.Fault.{Fault}
 use Rattle.listing.specs.declared.Fault.TheVariants.{Malformed, TooMany}
 use Rattle.listing.specs.declared.Listing.{Listing}
 use Rattle.listing.specs.declared.Listing.TheVariants.{WellFormed, Declined}
-use Rattle.listing.proofs.FirstLine.{first_line, lines_of, alone_line, pair_line, alone_inside, pair_inside, one_word, two_words}
+use Rattle.listing.proofs.FirstLine.{false_of, two_front, first_line, lines_of, alone_line, pair_line, alone_inside, pair_inside, one_word, two_words}
 
 -- ---- lines of two words
 
@@ -41,10 +45,6 @@ unfolding frames_in line_at
 frames_stop zero ls e = refl
 frames_stop (suc n) (behind t) e = refl
 frames_stop (suc n) (line l ls) e = rw e
-
-pub frames_none : (n : ℕ) (ls : Lines) → n ≡ 0 → frames_in n ls ≡ 0
-unfolding frames_in
-frames_none n ls e = rw e
 
 pub frames_le : (n : ℕ) (ls : Lines) → frames_in n ls ≤ n
 unfolding frames_in
@@ -67,17 +67,30 @@ frames_skip (suc p) (suc n) d h =
     (λ (e : has_two (line_from d 0) ≡ false). absurd (omega (arith, frames_stop (suc n) (split d) e)))
     (either (has_two (line_from d 0)))
 
+-- the frame lines in front, counted over the whole pieces of 18 bytes
+abbrev pub is_frame : List ℕ → Bool
+is_frame d = has_two (line_from d 0)
+
+pub frames_counted : (n : ℕ) (d : List ℕ) → prefix_len is_frame (take n (first_chunks 18 (length d / 18) d)) ≡ frames_in n (split d)
+unfolding frames_in
+frames_counted zero d = refl
+frames_counted (suc n) d =
+    ⊎_elim
+    (λ (l : 18 ≤ length d).
+    let rest = drop 18 d in
+    let z : length d / 18 ≡ suc (length rest / 18) = omega (arith, length-drop 18 d) in
+    let same = two_front d 18 (omega arith) in
+    ⊎_elim
+    (λ (e : has_two (line_from d 0) ≡ true). rw (z, same, e, one-add) (ap suc (frames_counted n rest) ∙ sym (frames_more d n e)))
+    (λ (e : has_two (line_from d 0) ≡ false). rw (z, same, e, frames_stop (suc n) (split d) e))
+    (either (has_two (line_from d 0))))
+    (λ (l : length d < 18).
+    let z : length d / 18 ≡ 0 = omega arith in
+    let none : has_two (line_from d 0) ≡ false = false_of (has_two (line_from d 0)) (λ e. omega (arith, frame_inside d e)) in
+    rw (z, frames_stop (suc n) (split d) none))
+    (le_or_lt 18 (length d))
+
 -- ---- the preamble, then the batches
-
-pub preamble_start : (s : List ℕ) → preamble_of (split s) ≡ 0 + frames_in (36 - 0) (split (drop (18 * 0) s))
-preamble_start s = omega arith
-
-pub preamble_more : (s : List ℕ) (p : ℕ) → p < 36 → has_two (line_from s (18 * p)) ≡ true
-    → frames_in (36 - p) (split (drop (18 * p) s)) ≡ suc (frames_in (36 - (p + 1)) (split (drop (18 * (p + 1)) s)))
-preamble_more s p h e =
-    let z : 36 - p ≡ suc (36 - (p + 1)) = omega arith in
-    let y : 18 * (p + 1) ≡ 18 * p + 18 = omega arith in
-    rw (z, y) (frames_more (drop (18 * p) s) (36 - (p + 1)) e ∙ ap (λ (d : List ℕ). suc (frames_in (36 - (p + 1)) (split d))) (drop-drop 18 (18 * p) s))
 
 module _ (s : List ℕ) (p : ℕ) (e : p ≡ preamble_of (split s)) where
   pub listing_short : p < 9 → listing_of s ≡ Declined (Malformed (p + 1))

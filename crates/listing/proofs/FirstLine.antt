@@ -9,7 +9,8 @@ use native.Mathlib.Omega.{arith}
 use borrow.Author.Tests.{not-false, eq-eqb, ne_eqb, eqb-true, eqb-false, leb-true, leb-false}
 use lib.Dec.{eqb, leb}
 use lib.ListN.{length, get_or, take, drop, length-drop, get_or-eq_default}
-use lib.Seq.{length-take-le, take-take, get_or-take, get_or-drop, drop-drop, drop-cons}
+use lib.Seq.{length-take-le, take-take, get_or-take, get_or-drop, drop-cons}
+use Rattle.std.specs.Prelude.{Some, None}
 use Rattle.base.specs.Hex.{is_hex, hex_number, hex_word}
 use Rattle.base.specs.Leading.{leading}
 use Rattle.base.specs.Lines.{Lines, behind, line, split, line_at, not_newline, line_end}
@@ -21,7 +22,7 @@ use Rattle.base.proofs.LinesLaws.{cut, uncut}
 use Rattle.base.proofs.ListLaws.{drop_take}
 use Rattle.listing.specs.Listing.{is_word, has_one, has_two}
 use Rattle.listing.specs.Words.{line_words}
-use Rattle.listing.specs.Scan.{line_from, words_if}
+use Rattle.listing.specs.Scan.{line_from, one_of, two_of}
 
 -- ---- Booleans and bytes
 
@@ -30,7 +31,7 @@ and_turn true q r = refl
 and_turn false true r = refl
 and_turn false false r = refl
 
-false_of : (p : Bool) → (p ≡ true → ⊥) → p ≡ false
+pub false_of : (p : Bool) → (p ≡ true → ⊥) → p ≡ false
 false_of true f = absurd (f refl)
 false_of false f = refl
 
@@ -168,6 +169,17 @@ module _ (d : List ℕ) where
       (λ (h : leading not_newline d < length d). rw (first_line d (leading not_newline d) refl h) (two_says (leading not_newline d) refl h))
       (lines_of d)
 
+-- the first line of m bytes, where they are as many as it needs to be right
+module _ (d : List ℕ) (m : ℕ) where
+  pub one_front : 9 ≤ m → has_one (line_from (take m d) 0) ≡ has_one (line_from d 0)
+  one_front h = one_word (take m d) ∙ rw (get_or-take m d 8 0 (omega arith), take-take 8 m d (omega arith)) (sym (one_word d))
+
+  pub two_front : 18 ≤ m → has_two (line_from (take m d) 0) ≡ has_two (line_from d 0)
+  two_front h =
+      two_words (take m d)
+      ∙ rw (get_or-take m d 17 0 (omega arith), get_or-take m d 8 0 (omega arith), take-take 8 m d (omega arith), drop_take 9 m d, take-take 8 (m - 9) (drop 9 d) (omega arith))
+      (sym (two_words d))
+
 -- a line of two words has not one alone
 pub two_not_one : (l : List ℕ) → has_two l ≡ true → has_one l ≡ false
 unfolding has_one has_two
@@ -176,74 +188,80 @@ two_not_one l e =
     let size = eqb-true (length (drop 9 l)) 8 (and_true (eqb (length (drop 9 l)) 8) _ second).0 in
     rw (ne_eqb (length l) 8 (λ f. omega (arith, length-drop 9 l)))
 
--- ---- the line that starts at a byte, as tests of single bytes and of eight digits find it
+-- ---- the line that a text begins with, as tests of single bytes and of eight digits find it
 
 -- eight bytes as a word
-module _ (s : List ℕ) (at : ℕ) (h : at + 8 ≤ length s) where
-  eight : length (take 8 (drop at s)) ≡ 8
-  eight = length-take-le 8 (drop at s) (omega (arith, length-drop at s))
+module _ (d : List ℕ) (h : 8 ≤ length d) where
+  eight : length (take 8 d) ≡ 8
+  eight = length-take-le 8 d h
 
-  word_digits : (w : ℕ) → hex_word (take 8 (drop at s)) ≡ Number w → (leading is_hex (take 8 (drop at s)) ≡ 8) × (hex_number 0 (take 8 (drop at s)) ≡ w)
+  word_digits : (w : ℕ) → hex_word (take 8 d) ≡ Number w → (leading is_hex (take 8 d) ≡ 8) × (hex_number 0 (take 8 d) ≡ w)
   word_digits w e =
-      let d = number_word (take 8 (drop at s)) w e in
-      (d.0 ∙ eight, sym (d.1 ∙ number_fits (take 8 (drop at s)) (omega (arith, eight))))
+      let n = number_word (take 8 d) w e in
+      (n.0 ∙ eight, sym (n.1 ∙ number_fits (take 8 d) (omega (arith, eight))))
 
-  word_other : hex_word (take 8 (drop at s)) ≡ NotHex → leading is_hex (take 8 (drop at s)) ≡ 8 → ⊥
-  word_other e f = none_word (take 8 (drop at s)) e (f ∙ sym eight)
+  word_other : hex_word (take 8 d) ≡ NotHex → leading is_hex (take 8 d) ≡ 8 → ⊥
+  word_other e f = none_word (take 8 d) e (f ∙ sym eight)
 
-module _ (s : List ℕ) (at : ℕ) where
-  pub one_open : (get_or s (at + 8) 0 ≡ 10 → ⊥) → has_one (line_from s at) ≡ false
-  one_open h = one_word (drop at s) ∙ rw (get_or-drop at s 8 0, ne_eqb (get_or s (at + 8) 0) 10 h)
+module _ (d : List ℕ) where
+  pub one_open : (get_or d 8 0 ≡ 10 → ⊥) → one_of (line_from d 0) ≡ None
+  one_open h = let no : has_one (line_from d 0) ≡ false = one_word d ∙ rw (ne_eqb (get_or d 8 0) 10 h) in rw no
 
-  module _ (e : get_or s (at + 8) 0 ≡ 10) where
-    pub one_none : hex_word (take 8 (drop at s)) ≡ NotHex → has_one (line_from s at) ≡ false
+  module _ (e : get_or d 8 0 ≡ 10) where
+    pub one_none : hex_word (take 8 d) ≡ NotHex → one_of (line_from d 0) ≡ None
     one_none n =
-        let long = inside s (at + 8) 10 e (omega arith) in
-        one_word (drop at s)
-        ∙ rw (get_or-drop at s 8 0, eq-eqb (get_or s (at + 8) 0) 10 e, ne_eqb (leading is_hex (take 8 (drop at s))) 8 (word_other s at (omega arith) n))
+        let long = inside d 8 10 e (omega arith) in
+        let no : has_one (line_from d 0) ≡ false =
+        one_word d ∙ rw (eq-eqb (get_or d 8 0) 10 e, ne_eqb (leading is_hex (take 8 d)) 8 (word_other d (omega arith) n)) in
+        rw no
 
-    pub one_some : (w : ℕ) → hex_word (take 8 (drop at s)) ≡ Number w → words_if (has_one (line_from s at)) (line_from s at) ≡ w ∷ []
-    unfolding line_at line_words
+    pub one_some : (w : ℕ) → hex_word (take 8 d) ≡ Number w → one_of (line_from d 0) ≡ Some w
+    unfolding line_at
     one_some w n =
-        let long = inside s (at + 8) 10 e (omega arith) in
-        let d = word_digits s at (omega arith) w n in
-        let here : alone (drop at s) ≡ true = rw (get_or-drop at s 8 0, eq-eqb (get_or s (at + 8) 0) 10 e, d.0) in
-        let right : has_one (line_from s at) ≡ true = one_word (drop at s) ∙ here in
-        let cut : line_from s at ≡ take 8 (drop at s) = rw (alone_line (drop at s) here) in
-        rw (right, cut, d.1)
+        let long = inside d 8 10 e (omega arith) in
+        let digits = word_digits d (omega arith) w n in
+        let here : alone d ≡ true = rw (eq-eqb (get_or d 8 0) 10 e, digits.0) in
+        let right : has_one (line_from d 0) ≡ true = one_word d ∙ here in
+        let cut : line_from d 0 ≡ take 8 d = rw (alone_line d here) in
+        rw (right, cut, digits.1)
 
-  pub two_open : (get_or s (at + 17) 0 ≡ 10 → ⊥) → has_two (line_from s at) ≡ false
-  two_open h = two_words (drop at s) ∙ rw (get_or-drop at s 17 0, ne_eqb (get_or s (at + 17) 0) 10 h)
+  pub two_open : (get_or d 17 0 ≡ 10 → ⊥) → two_of (line_from d 0) ≡ None
+  two_open h = let no : has_two (line_from d 0) ≡ false = two_words d ∙ rw (ne_eqb (get_or d 17 0) 10 h) in rw no
 
-  module _ (e : get_or s (at + 17) 0 ≡ 10) where
-    pub two_apart : (get_or s (at + 8) 0 ≡ 32 → ⊥) → has_two (line_from s at) ≡ false
-    two_apart h = two_words (drop at s) ∙ rw (get_or-drop at s 17 0, eq-eqb (get_or s (at + 17) 0) 10 e, get_or-drop at s 8 0, ne_eqb (get_or s (at + 8) 0) 32 h)
+  module _ (e : get_or d 17 0 ≡ 10) where
+    pub two_apart : (get_or d 8 0 ≡ 32 → ⊥) → two_of (line_from d 0) ≡ None
+    two_apart h =
+        let no : has_two (line_from d 0) ≡ false = two_words d ∙ rw (eq-eqb (get_or d 17 0) 10 e, ne_eqb (get_or d 8 0) 32 h) in rw no
 
-    module _ (f : get_or s (at + 8) 0 ≡ 32) where
-      pair_is : pair (drop at s) ≡ eqb (leading is_hex (take 8 (drop at s))) 8 && eqb (leading is_hex (take 8 (drop (at + 9) s))) 8
-      pair_is = rw (get_or-drop at s 17 0, eq-eqb (get_or s (at + 17) 0) 10 e, get_or-drop at s 8 0, eq-eqb (get_or s (at + 8) 0) 32 f, drop-drop 9 at s)
+    module _ (f : get_or d 8 0 ≡ 32) where
+      pair_is : pair d ≡ eqb (leading is_hex (take 8 d)) 8 && eqb (leading is_hex (take 8 (drop 9 d))) 8
+      pair_is = rw (eq-eqb (get_or d 17 0) 10 e, eq-eqb (get_or d 8 0) 32 f)
 
-      pub two_first : hex_word (take 8 (drop at s)) ≡ NotHex → has_two (line_from s at) ≡ false
+      pub two_first : hex_word (take 8 d) ≡ NotHex → two_of (line_from d 0) ≡ None
       two_first n =
-          let long = inside s (at + 17) 10 e (omega arith) in
-          two_words (drop at s) ∙ pair_is ∙ rw (ne_eqb (leading is_hex (take 8 (drop at s))) 8 (word_other s at (omega arith) n))
+          let long = inside d 17 10 e (omega arith) in
+          let no : has_two (line_from d 0) ≡ false =
+          two_words d ∙ pair_is ∙ rw (ne_eqb (leading is_hex (take 8 d)) 8 (word_other d (omega arith) n)) in
+          rw no
 
-      pub two_second : hex_word (take 8 (drop (at + 9) s)) ≡ NotHex → has_two (line_from s at) ≡ false
+      pub two_second : hex_word (take 8 (drop 9 d)) ≡ NotHex → two_of (line_from d 0) ≡ None
       two_second n =
-          let long = inside s (at + 17) 10 e (omega arith) in
-          two_words (drop at s)
+          let long = inside d 17 10 e (omega arith) in
+          let no : has_two (line_from d 0) ≡ false =
+          two_words d
           ∙ pair_is
-          ∙ rw (ne_eqb (leading is_hex (take 8 (drop (at + 9) s))) 8 (word_other s (at + 9) (omega arith) n)) (and_false (eqb (leading is_hex (take 8 (drop at s))) 8))
+          ∙ rw (ne_eqb (leading is_hex (take 8 (drop 9 d))) 8 (word_other (drop 9 d) (omega (arith, length-drop 9 d)) n))
+          (and_false (eqb (leading is_hex (take 8 d)) 8)) in
+          rw no
 
-      pub two_some : (v w : ℕ) → hex_word (take 8 (drop at s)) ≡ Number v → hex_word (take 8 (drop (at + 9) s)) ≡ Number w
-          → words_if (has_two (line_from s at)) (line_from s at) ≡ v ∷ w ∷ []
+      pub two_some : (v w : ℕ) → hex_word (take 8 d) ≡ Number v → hex_word (take 8 (drop 9 d)) ≡ Number w → two_of (line_from d 0) ≡ Some (v ∷ w ∷ [])
       unfolding line_at line_words
       two_some v w m n =
-          let long = inside s (at + 17) 10 e (omega arith) in
-          let one = word_digits s at (omega arith) v m in
-          let two = word_digits s (at + 9) (omega arith) w n in
-          let here : pair (drop at s) ≡ true = pair_is ∙ rw (one.0, two.0) in
-          let right : has_two (line_from s at) ≡ true = two_words (drop at s) ∙ here in
-          let other = two_not_one (line_from s at) right in
-          let cut : line_from s at ≡ take 17 (drop at s) = rw (pair_line (drop at s) here) in
-          rw (right, other, cut, take-take 8 17 (drop at s) (omega arith), drop_take 9 17 (drop at s), drop-drop 9 at s, one.1, two.1)
+          let long = inside d 17 10 e (omega arith) in
+          let one = word_digits d (omega arith) v m in
+          let two = word_digits (drop 9 d) (omega (arith, length-drop 9 d)) w n in
+          let here : pair d ≡ true = pair_is ∙ rw (one.0, two.0) in
+          let right : has_two (line_from d 0) ≡ true = two_words d ∙ here in
+          let other = two_not_one (line_from d 0) right in
+          let cut : line_from d 0 ≡ take 17 d = rw (pair_line d here) in
+          rw (right, other, cut, take-take 8 17 d (omega arith), drop_take 9 17 d, one.1, two.1)

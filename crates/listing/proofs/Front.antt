@@ -8,39 +8,28 @@ use mathlib.Core.Logic.{⊎_elim}
 use native.Mathlib.Omega.{arith}
 use lib.Dec.{eqb}
 use lib.ListN.{length, take, drop, length-drop}
-use lib.Seq.{get_or-take, length-take-le, take_all, take-take}
+use lib.Seq.{length-take-le, take_all, take-take}
 use Rattle.base.specs.Lines.{split}
 use Rattle.base.proofs.Bools.{either}
 use Rattle.base.proofs.ListLaws.{drop_take, tab-same}
 use Rattle.base.proofs.SearchLaws.{le_or_lt}
-use Rattle.listing.specs.Listing.{has_one, has_two, frames_in, preamble_of, is_due, batches, listing_of}
+use Rattle.listing.specs.Listing.{has_two, frames_in, preamble_of, is_due, batches, listing_of}
 use Rattle.listing.specs.Words.{words_of}
 use Rattle.listing.specs.Scan.{line_from}
 use Rattle.listing.specs.Front.{FrontSettles}
 use Rattle.listing.specs.declared.Listing.{Listing}
 use Rattle.listing.specs.declared.Listing.TheVariants.{WellFormed, Declined}
-use Rattle.listing.proofs.FirstLine.{one_word, two_words}
+use Rattle.listing.proofs.FirstLine.{one_front, two_front}
 use Rattle.listing.proofs.BatchLaws.{line_bytes, frames_more, frames_stop, frames_le, listing_short, listing_long, batches_more, batches_stray, batches_full}
 use Rattle.listing.proofs.Indexed.{word_at, words_before, bytes_more, words_indexed, formed}
 
--- ---- the first line of m bytes, where they are as many as it needs to be right
-
 module _ (d : List ℕ) (m : ℕ) where
-  one_front : 9 ≤ m → has_one (line_from (take m d) 0) ≡ has_one (line_from d 0)
-  one_front h = one_word (take m d) ∙ rw (get_or-take m d 8 0 (omega arith), take-take 8 m d (omega arith)) (sym (one_word d))
-
-  two_front : 18 ≤ m → has_two (line_from (take m d) 0) ≡ has_two (line_from d 0)
-  two_front h =
-      two_words (take m d)
-      ∙ rw (get_or-take m d 17 0 (omega arith), get_or-take m d 8 0 (omega arith), take-take 8 m d (omega arith), drop_take 9 m d, take-take 8 (m - 9) (drop 9 d) (omega arith))
-      (sym (two_words d))
-
   due_front : (q : ℕ) → line_bytes q ≤ m → is_due q (line_from (take m d) 0) ≡ is_due q (line_from d 0)
   unfolding is_due line_bytes
   due_front q h =
       ⊎_elim
-      (λ (z : eqb (q % 9) 0 ≡ true). let n = rw z at h in rw z (one_front n))
-      (λ (z : eqb (q % 9) 0 ≡ false). let n = rw z at h in rw z (two_front n))
+      (λ (z : eqb (q % 9) 0 ≡ true). let n = rw z at h in rw z (one_front d m n))
+      (λ (z : eqb (q % 9) 0 ≡ false). let n = rw z at h in rw z (two_front d m n))
       (either (eqb (q % 9) 0))
 
 -- ---- line by line

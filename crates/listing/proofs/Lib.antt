@@ -1,5 +1,6 @@
 pub mod FirstLine
 pub mod BatchLaws
+pub mod Pieces
 pub mod Indexed
 pub mod TextLaws
 pub mod Decoding

@@ -5,10 +5,10 @@ ghost use Rattle.std.specs.Prelude.{◌≡◌, cond, ◌*◌, ◌≤◌, length,
 ghost use Rattle.base.specs.Lines.{split};
 ghost use Rattle.base.specs.Lists.{over};
 ghost use Rattle.listing.specs.Text.{end_of};
-ghost use Rattle.listing.specs.Listing.{has_one, has_two, preamble_of, is_due, batches, listing_of};
+ghost use Rattle.listing.specs.Listing.{has_one, preamble_of, is_due, batches, listing_of};
 ghost use Rattle.listing.specs.Answers.{number_of, place_of, batches_of, decoded_of};
 ghost use Rattle.listing.specs.Writing.{writing_of, after_write};
-ghost use Rattle.listing.specs.Scan.{line_from, words_if, words_met, words_decoded, words_kept};
+ghost use Rattle.listing.specs.Scan.{line_from, one_of, two_of, count_if, words_if, words_met, words_decoded, words_kept};
 ghost use Rattle.listing.specs.declared.Fault.TheVariants.{Malformed, TooMany};
 
 use base::HexWord;
@@ -91,94 +91,74 @@ pub fn place(l: Listing) -> usize
     }
 }
 
-// Writes the word of the line that starts at a byte, where it has a word alone, and answers how many words are written. Here and in
-// `read_two` the digits come last, so that none is read before the line has its form.
-fn read_one(s: &[u8], at: usize, words: &mut [u32]) -> usize
-    requires { (at ≤ length s.now) × (1 ≤ length words.old) }
-    ensures value { result ≡ length (words_if (has_one (line_from s.now at)) (line_from s.now at)) }
-    ensures words_after { words.new ≡ over words.old (words_if (has_one (line_from s.now at)) (line_from s.now at)) }
+// The word of the line that a text begins with, where it has a word alone. Here and in `read_two` the digits come last, so that none is
+// read before the line has its form.
+fn read_one(s: &[u8]) -> Option<u32>
+    ensures { result ≡ one_of (line_from s.now 0) }
 {
-    if s.len() - at <= 8 {
-        return 0;
+    if *s.get(8)? != b'\n' {
+        return None;
     }
-    let end = at + 8;
-    if s[end] != b'\n' {
-        return 0;
-    }
-    let HexWord::Number(word) = base::hex_word(&s[at..end]) else {
-        return 0;
+    let HexWord::Number(word) = base::hex_word(&s[..8]) else {
+        return None;
     };
-    words[0] = word;
-    1
+    Some(word)
 }
 
-// Writes the words of the line that starts at a byte, where it has two with a space between, and answers how many words are written.
-fn read_two(s: &[u8], at: usize, words: &mut [u32]) -> usize
-    requires { (at ≤ length s.now) × (2 ≤ length words.old) }
-    ensures value { result ≡ length (words_if (has_two (line_from s.now at)) (line_from s.now at)) }
-    ensures words_after { words.new ≡ over words.old (words_if (has_two (line_from s.now at)) (line_from s.now at)) }
+// The words of the line that a text begins with, where it has two with a space between.
+fn read_two(s: &[u8]) -> Option<[u32; 2]>
+    ensures { result ≡ two_of (line_from s.now 0) }
 {
-    if s.len() - at <= 17 {
-        return 0;
+    if *s.get(17)? != b'\n' {
+        return None;
     }
-    let space = at + 8;
-    let second = at + 9;
-    let stop = at + 17;
-    if s[stop] != b'\n' {
-        return 0;
+    if s[8] != b' ' {
+        return None;
     }
-    if s[space] != b' ' {
-        return 0;
-    }
-    let HexWord::Number(one) = base::hex_word(&s[at..space]) else {
-        return 0;
+    let HexWord::Number(one) = base::hex_word(&s[..8]) else {
+        return None;
     };
-    let HexWord::Number(two) = base::hex_word(&s[second..stop]) else {
-        return 0;
+    let HexWord::Number(two) = base::hex_word(&s[9..17]) else {
+        return None;
     };
-    words[0] = one;
-    words[1] = two;
-    2
+    Some([one, two])
 }
 
 // How many preamble lines a text begins with, counted up to 36.
 fn preamble_lines(s: &[u8]) -> usize
     ensures { result ≡ preamble_of (split s.now) }
 {
-    let mut p = 0;
-    while p < 36 {
-        let mut frame = [0u32; 2];
-        if read_two(s, 18 * p, &mut frame) == 0 {
-            return p;
-        }
-        p += 1;
-    }
-    p
+    s.chunks_exact(18)
+        .take(36)
+        .take_while(|line| read_two(line).is_some())
+        .count()
 }
 
-// Writes the words of line q of the batches, which starts at a byte, and answers how many they are: none where the line has not the
+// Writes the words of line q of the batches, with which a text begins, and answers how many they are: none where the line has not the
 // words that are due.
-fn read_line(s: &[u8], at: usize, q: usize, words: &mut [u32]) -> usize
-    requires { (at ≤ length s.now) × (2 ≤ length words.old) }
-    ensures value { result ≡ length (words_if (is_due q (line_from s.now at)) (line_from s.now at)) }
-    ensures words_after { words.new ≡ over words.old (words_if (is_due q (line_from s.now at)) (line_from s.now at)) }
+fn read_line(s: &[u8], q: usize, words: &mut [u32]) -> Option<usize>
+    requires { 2 ≤ length words.old }
+    ensures value { result ≡ count_if (is_due q (line_from s.now 0)) (line_from s.now 0) }
+    ensures words_after { words.new ≡ over words.old (words_if (is_due q (line_from s.now 0)) (line_from s.now 0)) }
 {
     if q % 9 == 0 {
-        return read_one(s, at, words);
+        words[0] = read_one(s)?;
+        return Some(1);
     }
-    read_two(s, at, words)
+    let [one, two] = read_two(s)?;
+    words[0] = one;
+    words[1] = two;
+    Some(2)
 }
 
-// The fault of a line behind 300 batches: a 301st begins with it, or it is malformed.
-fn fault_behind(s: &[u8], at: usize, line: usize) -> Fault
-    requires { at ≤ length s.now }
-    ensures { result ≡ cond (has_one (line_from s.now at)) (TooMany line) (Malformed line) }
+// The fault of a line behind 300 batches, with which a text begins: a 301st batch begins with it, or it is malformed.
+fn fault_behind(s: &[u8], line: usize) -> Fault
+    ensures { result ≡ cond (has_one (line_from s.now 0)) (TooMany line) (Malformed line) }
 {
-    let mut sync = [0u32; 1];
-    if read_one(s, at, &mut sync) == 0 {
-        return Fault::Malformed(line);
+    match read_one(s) {
+        Some(_) => Fault::TooMany(line),
+        None => Fault::Malformed(line),
     }
-    Fault::TooMany(line)
 }
 
 // Reads the batches behind p preamble lines, up to the first line that is not right, and writes their words.
@@ -194,12 +174,11 @@ fn read_batches(s: &[u8], p: usize, words: &mut [u32]) -> Listing
     while at < s.len() {
         let line = p + q + 1;
         if q == 2700 {
-            return Listing::Declined(fault_behind(s, at, line));
+            return Listing::Declined(fault_behind(&s[at..], line));
         }
-        let n = read_line(s, at, q, &mut words[k..]);
-        if n == 0 {
+        let Some(n) = read_line(&s[at..], q, &mut words[k..]) else {
             return Listing::Declined(Fault::Malformed(line));
-        }
+        };
         at += 9 * n;
         k += n;
         q += 1;
@@ -266,19 +245,16 @@ pub fn decode(s: &[u8]) -> Decoded
 }
 
 // The byte behind word k: a space where another word follows on its line, otherwise a newline.
+#[tactic(auto, unfolding(crate::specs::Text::end_of, crate::specs::Text::opens_frame))]
 fn word_end(k: usize) -> u8
     ensures { result ≡ end_of k }
 {
-    if k < 18 {
-        if k % 2 == 0 {
-            return b' ';
-        }
-        return b'\n';
-    }
-    if (k - 18) % 17 % 2 == 1 {
-        return b' ';
-    }
-    b'\n'
+    let opens = if k < 18 {
+        k % 2 == 0
+    } else {
+        (k - 18) % 17 % 2 == 1
+    };
+    if opens { b' ' } else { b'\n' }
 }
 
 // Writes the listing of a transmission's words, and answers how many bytes it has. What stands behind them keeps its value.
@@ -289,13 +265,11 @@ pub fn write(words: &[u32], out: &mut [u8]) -> Writing
     if out.len() / 9 < words.len() {
         return Writing::NoRoom;
     }
-    let mut k = 0;
-    while k < words.len() {
+    for (k, word) in words.iter().enumerate() {
         let at = 9 * k;
         let stop = at + 8;
-        base::write_digits(&mut out[at..stop], words[k]);
+        base::write_digits(&mut out[at..stop], *word);
         out[stop] = word_end(k);
-        k += 1;
     }
     Writing::Bytes(9 * words.len())
 }

@@ -1,39 +1,19 @@
-use Prim.Native.Nat.{◌-◌, ◌*◌}
-use mathlib.Core.Path.{◌≡◌, sym, ◌∙◌}
-use native.Mathlib.Omega.{arith}
-use lib.ListN.{drop}
-use Rattle.base.specs.Lines.{split}
-use Rattle.listing.specs.Listing.{has_two}
-use Rattle.listing.specs.Scan.{line_from}
-use Rattle.listing.proofs.BatchLaws.{frames_skip, frames_stop, frames_none, preamble_start, preamble_more}
-use Rattle.listing.proofs.Decoding.{none_read, some_read}
+-- `listing::preamble_lines` meets its contract: it counts the pieces that are frame lines. Assumes nothing.
+use Rattle.std.proofs.Common.{rules, tests, ◌∙◌, take, length, ◌/◌}
+use Rattle.std.specs.Simd.{first_chunks}
+use Rattle.std.proofs.lemmas.Iterator.{YieldsList-from_take}
+use Rattle.std.proofs.lemmas.Iterator.Consumers.{count_from_yields_List}
+use Rattle.std.proofs.lemmas.Iterator.Search.{YieldsList-from_take_while}
+use Rattle.std.proofs.lemmas.List.Folds.{length-prefix_len}
+use Rattle.listing.proofs.BatchLaws.{is_frame, frames_counted}
+use Rattle.listing.proofs.Pieces.{pieces_given}
 use Rattle.listing.proofs.preamble_lines.Goals as goal
-
-pub loop-p-init : goal.loop-p-init
-loop-p-init c = (omega arith, preamble_start c.args.s.now)
-
-pub read_two-requires : goal.read_two-requires
-read_two-requires c =
-    let s = c.args.s.now in
-    ((frames_skip c.loop-p.p 36 s (omega arith)).1, omega arith)
-
-pub returns-then-read_two-eq0 : goal.returns-then-read_two-eq0
-returns-then-read_two-eq0 c =
-    let s = c.args.s.now in
-    let p = c.loop-p.p in
-    let none = none_read (has_two (line_from s (18 * p))) (line_from s (18 * p)) (sym c.read_two.ensures.value ∙ c.if-read_two-eq0.true) in
-    omega (arith, frames_stop (36 - p) (split (drop (18 * p) s)) none)
-
-pub loop-p-preserved : goal.loop-p-preserved
-loop-p-preserved c =
-    let s = c.args.s.now in
-    let p = c.loop-p.p in
-    let some = some_read (has_two (line_from s (18 * p))) (line_from s (18 * p)) (λ e. c.if-read_two-eq0.false (c.read_two.ensures.value ∙ e)) in
-    (omega arith, omega (arith, preamble_more s p (omega arith) some))
 
 pub returns : goal.returns
 returns c =
     let s = c.args.s.now in
-    let p = c.loop-p.p in
-    let z : 36 - p ≡ 0 = omega arith in
-    omega (arith, frames_none (36 - p) (split (drop (18 * p) s)) z)
+    let lines = take 36 (first_chunks 18 (length s / 18) s) in
+    count_from_yields_List c.take_while.result _ c.count.ensures.ran
+    (YieldsList-from_take_while _ is_frame (YieldsList-from_take 36 (pieces_given s (cc) (cc)) (cc)) c.take_while.ensures.closure c.take_while.ensures.done (λ x b q k. search (rules, tests)))
+    ∙ length-prefix_len is_frame lines
+    ∙ frames_counted 36 s

@@ -1,17 +1,21 @@
 use Prim.Native.Nat.{ℕ, ◌+◌, ◌-◌, ◌≤◌, ◌<◌}
-use mathlib.Core.Path.{◌≡◌, sym, ◌∙◌}
+use mathlib.Core.Path.{◌≡◌, sym, ap, ◌∙◌}
 use mathlib.Core.List.{List}
-use mathlib.Core.Bool.{true, false}
 use native.Mathlib.Omega.{arith}
-use borrow.Author.Rules.{rules}
-use lib.ListN.{length, drop, length-drop}
-use lib.Seq.{length-take-le}
+use lib.ListN.{length, take, drop, length-drop}
+use lib.Seq.{take_all}
+use Rattle.base.specs.Lists.{over}
 use Rattle.listing.specs.Listing.{is_due}
-use Rattle.listing.specs.Scan.{line_from}
-use Rattle.listing.proofs.BatchLaws.{batches_stray, batches_end, met_end, whole_yes, whole_none, whole_part, below_limit}
-use Rattle.listing.proofs.Decoding.{begun, same_size, fits, read_on, met, read_none, none_read, some_read}
-use Rattle.listing.proofs.read_batches.Goals.{After-read_line-n, At-loop-at, Else-n-eq0}
+use Rattle.listing.specs.Scan.{line_from, count_if, words_if}
+use Rattle.listing.specs.declared.Listing.TheVariants.{Declined}
+use Rattle.listing.proofs.BatchLaws.{batches_full, batches_stray, batches_end, met_end, whole_yes, whole_none, whole_part}
+use Rattle.listing.proofs.Decoding.{read_on, met, read_none, none_read, some_read}
+use Rattle.listing.proofs.read_batches.Goals.{After-read_line, At-loop-at, In-Some}
 use Rattle.listing.proofs.read_batches.Goals as goal
+
+-- the slice from a byte on is what is left there
+here : (s : List ℕ) (at : ℕ) → take (length s - at) (drop at s) ≡ drop at s
+here s at = take_all (length s - at) (drop at s) (omega (arith, length-drop at s))
 
 -- before a line
 module _ (l : At-loop-at) where
@@ -34,9 +38,6 @@ module _ (l : At-loop-at) where
   room : 5100 ≤ length l.args.words.now
   room = l.requires.2
 
-  size : length l.loop-at.words ≡ length l.args.words.now
-  size = same_size room l.loop-at.invariant
-
   more : l.loop-at.at < length s → 0 < length d
   more h = omega (arith, length-drop l.loop-at.at s)
 
@@ -44,66 +45,30 @@ module _ (l : At-loop-at) where
   none h = omega (arith, length-drop l.loop-at.at s)
 
 -- how many words are read tells whether the line is right
-module _ (c : After-read_line-n) where
+module _ (c : After-read_line) where
   abbrev now : List ℕ
   now = line_from c.args.s.now c.loop-at.at
 
-  stray : c.read_line-n.result ≡ 0 → is_due c.loop-at.q now ≡ false
-  stray e = none_read (is_due c.loop-at.q now) now (sym c.read_line-n.ensures.value ∙ e)
+  count : c.read_line.result ≡ count_if (is_due c.loop-at.q now) now
+  count = rw (here c.args.s.now c.loop-at.at) at c.read_line.ensures.value
 
-  due : (c.read_line-n.result ≡ 0 → ⊥) → is_due c.loop-at.q now ≡ true
-  due h = some_read (is_due c.loop-at.q now) now (λ e. h (c.read_line-n.ensures.value ∙ e))
+  part : c.read_line.new.words ≡ over (take (length c.loop-at.words - c.loop-at.k) (drop c.loop-at.k c.loop-at.words)) (words_if (is_due c.loop-at.q now) now)
+  part = rw (here c.args.s.now c.loop-at.at) at c.read_line.ensures.words_after
 
-pub loop-at-init : goal.loop-at-init
-loop-at-init c = let a = c.args in begun a.s.now a.p a.words.now c.requires.1
+pub returns-then-q-eq2700-clause-value : goal.returns-then-q-eq2700-clause-value
+returns-then-q-eq2700-clause-value c =
+    let l = (goal.at.returns-then-q-eq2700-clause-value c).At-loop-at in
+    let fault = rw (here (s l) c.loop-at.at) at c.fault_behind.ensures in
+    ap Declined fault ∙ sym (c.loop-at.invariant.left ∙ batches_full (p l) (q l) (d l) c.if-q-eq2700.true (more l c.loop-at-test.true))
 
-pub overflow_add-line : goal.overflow_add-line
-overflow_add-line c = omega (arith, c.loop-at.invariant.few)
-
-pub overflow_add-line-in-loop-at : goal.overflow_add-line-in-loop-at
-overflow_add-line-in-loop-at c = omega (arith, c.loop-at.invariant.few)
-
-pub fault_behind-requires : goal.fault_behind-requires
-fault_behind-requires c = c.loop-at.invariant.inside
-
-pub offset_bounds-words-k : goal.offset_bounds-words-k
-offset_bounds-words-k c = omega (arith, c.loop-at.invariant.few, c.loop-at.invariant.count)
-
-pub slice_bounds-read_line-count : goal.slice_bounds-read_line-count
-slice_bounds-read_line-count c =
+pub returns-in_default : goal.returns-in_default
+returns-in_default c =
     let few : c.loop-at.q ≡ 2700 → ⊥ = λ e. omega arith in
-    omega (arith, fits (room (goal.at.slice_bounds-read_line-count c).At-loop-at) c.loop-at.invariant few)
-
-pub slice_bounds-read_line-start : goal.slice_bounds-read_line-start
-slice_bounds-read_line-start c =
-    let few : c.loop-at.q ≡ 2700 → ⊥ = λ e. omega arith in
-    let two = fits (room (goal.at.slice_bounds-read_line-start c).At-loop-at) c.loop-at.invariant few in search rules
-
-pub slice_bounds-read_line-end : goal.slice_bounds-read_line-end
-slice_bounds-read_line-end c =
-    let few : c.loop-at.q ≡ 2700 → ⊥ = λ e. omega arith in
-    let two = fits (room (goal.at.slice_bounds-read_line-end c).At-loop-at) c.loop-at.invariant few in search rules
-
-pub read_line-n-requires : goal.read_line-n-requires
-read_line-n-requires c =
-    let few : c.loop-at.q ≡ 2700 → ⊥ = λ e. omega arith in
-    let two = fits (room (goal.at.read_line-n-requires c).At-loop-at) c.loop-at.invariant few in
-    let k = c.loop-at.k in
-    let words = c.loop-at.words in
-    (c.loop-at.invariant.inside, omega (arith, length-take-le (length words - k) (drop k words) (omega (arith, length-drop k words)), length-drop k words))
-
-pub shape_of-words-then-n-eq0 : goal.shape_of-words-then-n-eq0
-shape_of-words-then-n-eq0 c =
-    let same = size (goal.at.shape_of-words-then-n-eq0 c).At-loop-at in
-    search rules
-
-pub returns-then-n-eq0 : goal.returns-then-n-eq0
-returns-then-n-eq0 c =
-    let few : c.loop-at.q ≡ 2700 → ⊥ = λ e. omega arith in
-    let l = (goal.at.returns-then-n-eq0 c).At-loop-at in
-    let other = stray (goal.at.returns-then-n-eq0 c).After-read_line-n c.if-n-eq0.true in record {
+    let l = (goal.at.returns-in_default c).At-loop-at in
+    let r = (goal.at.returns-in_default c).After-read_line in
+    let other = none_read (line l) (sym (count r) ∙ c.in_default.is) in record {
       value = sym (c.loop-at.invariant.left ∙ batches_stray (p l) (q l) (d l) other (more l c.loop-at-test.true));
-      words_after = read_none (room l) c.loop-at.invariant few other c.read_line-n.ensures.words_after;
+      words_after = read_none (room l) c.loop-at.invariant few other (part r);
     }
 
 -- behind a line that is read
@@ -111,28 +76,15 @@ pub loop-at-preserved : goal.loop-at-preserved
 loop-at-preserved c =
     let few : c.loop-at.q ≡ 2700 → ⊥ = λ e. omega arith in
     let l = (goal.at.loop-at-preserved c).At-loop-at in
-    let right = due (goal.at.loop-at-preserved c).After-read_line-n c.if-n-eq0.false in
-    read_on (room l) c.loop-at.invariant few right c.read_line-n.ensures.value c.read_line-n.ensures.words_after
+    let r = (goal.at.loop-at-preserved c).After-read_line in
+    let right = some_read (line l) (sym (count r) ∙ c.in-Some.is) in
+    read_on (room l) c.loop-at.invariant few right.0 right.1 (part r)
 
 pub overflow_mul-at-in-loop-at : goal.overflow_mul-at-in-loop-at
-overflow_mul-at-in-loop-at c = omega (arith, (loop-at-preserved (goal.at.overflow_mul-at-in-loop-at c).Else-n-eq0).inside)
+overflow_mul-at-in-loop-at c = omega (arith, (loop-at-preserved (goal.at.overflow_mul-at-in-loop-at c).In-Some).inside)
 
 pub overflow_add-at : goal.overflow_add-at
-overflow_add-at c = omega (arith, (loop-at-preserved (goal.at.overflow_add-at c).Else-n-eq0).inside)
-
-pub overflow_add-k : goal.overflow_add-k
-overflow_add-k c = omega (arith, (loop-at-preserved (goal.at.overflow_add-k c).Else-n-eq0).few, (loop-at-preserved (goal.at.overflow_add-k c).Else-n-eq0).count)
-
-pub overflow_add-q : goal.overflow_add-q
-overflow_add-q c = omega (arith, c.loop-at.invariant.few)
-
-pub loop-at-smaller : goal.loop-at-smaller
-loop-at-smaller c =
-    let few : c.loop-at.q ≡ 2700 → ⊥ = λ e. omega arith in
-    omega (arith, below_limit (q (goal.at.loop-at-smaller c).At-loop-at) c.loop-at.invariant.few few)
-
-pub shape_of-words-then-q-eq0 : goal.shape_of-words-then-q-eq0
-shape_of-words-then-q-eq0 c = size (goal.at.shape_of-words-then-q-eq0 c).At-loop-at
+overflow_add-at c = omega (arith, (loop-at-preserved (goal.at.overflow_add-at c).In-Some).inside)
 
 pub returns-then-q-eq0 : goal.returns-then-q-eq0
 returns-then-q-eq0 c =
@@ -145,15 +97,6 @@ returns-then-q-eq0 c =
       words_after = met (room l) c.loop-at.invariant (met_end (q l) (s l) c.loop-at.at over);
     }
 
-pub overflow_add-result-then-q-ne0 : goal.overflow_add-result-then-q-ne0
-overflow_add-result-then-q-ne0 c = omega (arith, c.loop-at.invariant.few)
-
-pub overflow_add-result-then-q-ne0-2 : goal.overflow_add-result-then-q-ne0-2
-overflow_add-result-then-q-ne0-2 c = omega (arith, c.loop-at.invariant.few)
-
-pub shape_of-words-then-q-ne0 : goal.shape_of-words-then-q-ne0
-shape_of-words-then-q-ne0 c = size (goal.at.shape_of-words-then-q-ne0 c).At-loop-at
-
 pub returns-then-q-ne0 : goal.returns-then-q-ne0
 returns-then-q-ne0 c =
     let l = (goal.at.returns-then-q-ne0 c).At-loop-at in
@@ -163,9 +106,6 @@ returns-then-q-ne0 c =
       value = sym (c.loop-at.invariant.left ∙ end ∙ rw (whole_part (q l) c.if-q-ne0.true));
       words_after = met (room l) c.loop-at.invariant (met_end (q l) (s l) c.loop-at.at over);
     }
-
-pub shape_of-words : goal.shape_of-words
-shape_of-words c = size (goal.at.shape_of-words c).At-loop-at
 
 pub returns : goal.returns
 returns c =
