@@ -10,6 +10,7 @@ use borrow.Author.Tests.{eq-eqb, ne_eqb, eqb-true, eqb-false, lt-ltb, le-ltb}
 use lib.Dec.{eqb}
 use lib.ListN.{length, get_or, take, drop, drop_of_length-le, length-drop}
 use lib.Seq.{drop-cons, drop-drop, get_or-drop, take_all, take_at}
+use Rattle.std.specs.Prelude.{Some}
 use Rattle.base.specs.Hex.{is_hex}
 use Rattle.base.specs.Leading.{leading}
 use Rattle.base.specs.Lines.{split}
@@ -17,12 +18,10 @@ use Rattle.base.specs.Lists.{tab}
 use Rattle.base.proofs.Bools.{either, and_false}
 use Rattle.base.proofs.HexLaws.{digits_hex, digits_back}
 use Rattle.listing.specs.Text.{opens_frame, end_of, text_of}
-use Rattle.listing.specs.Listing.{frames_in, preamble_of, is_due, batches, listing_of}
+use Rattle.listing.specs.Listing.{frames_in, preamble_of, is_due, batches, listing_of, well_formed}
 use Rattle.listing.specs.Scan.{line_from}
 use Rattle.listing.specs.Writing.{writing_of}
 use Rattle.listing.specs.ReadBack.{OfBatches, ReadBack}
-use Rattle.listing.specs.declared.Listing.TheVariants.{WellFormed}
-use Rattle.listing.specs.declared.Writing.TheVariants.{Bytes}
 use Rattle.listing.proofs.FirstLine.{alone, pair, one_word, two_words}
 use Rattle.listing.proofs.BatchLaws.{line_bytes, frames_more, frames_stop, listing_long, batches_more, batches_end, whole_yes}
 use Rattle.listing.proofs.Indexed.{word_at, words_from, words_more, words_before, bytes_more, words_indexed}
@@ -119,7 +118,7 @@ module _ (ws : List ℕ) where
   next_line q = let z : 9 * line_word q + line_bytes q ≡ 9 * line_word (q + 1) = omega (arith, bytes_more q) in rw (drop-drop (line_bytes q) (9 * line_word q) (text_of ws), z)
 
   -- m more lines
-  batches_rest : (b m q : ℕ) → q + m ≡ 9 * b → length ws ≡ 18 + 17 * b → 1 ≤ b → b ≤ 300 → batches 9 q (split (from (line_word q))) ≡ WellFormed 9 b
+  batches_rest : (b m q : ℕ) → q + m ≡ 9 * b → length ws ≡ 18 + 17 * b → 1 ≤ b → b ≤ 300 → batches 9 q (split (from (line_word q))) ≡ well_formed 9 b
   batches_rest b zero q e size some few =
       let z : q / 9 ≡ b = omega arith in
       batches_end 9 q (from (line_word q)) (omega (arith, length-drop (9 * line_word q) (text_of ws), text_length 0 ws))
@@ -143,7 +142,7 @@ module _ (ws : List ℕ) where
   words_back (suc n) k e small =
       rw (words_more (text_of ws) k n, drop-cons ws k 0 (omega arith), word_back k (omega arith) (small k), words_back n (k + 1) (omega arith) small, add-one)
 
-form_back : (ws : List ℕ) (b : ℕ) → OfBatches ws b → listing_of (text_of ws) ≡ WellFormed 9 b
+form_back : (ws : List ℕ) (b : ℕ) → OfBatches ws b → listing_of (text_of ws) ≡ well_formed 9 b
 form_back ws b t =
     let nine : 9 ≡ preamble_of (split (text_of ws)) = sym (preamble_rest ws 9 0 refl (omega arith)) in
     listing_long (text_of ws) 9 nine (omega arith) ∙ batches_rest ws b (9 * b) 0 (omega arith) t.size t.some t.few
@@ -156,7 +155,7 @@ read_back ws b t =
     record {
       writing =
           λ old room.
-          let answer : writing_of ws (length old) ≡ Bytes (9 * length ws) = rw (le-ltb (length old) (9 * length ws) room) in
+          let answer : writing_of ws (length old) ≡ Some (9 * length ws) = rw (le-ltb (length old) (9 * length ws) room) in
           (answer, rw (answer, take_all (9 * length ws) text (omega (arith, text_length 0 ws))) (take_at text _ (9 * length ws) (text_length 0 ws)));
       form = form;
       batches = batches;

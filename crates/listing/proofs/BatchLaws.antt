@@ -1,4 +1,5 @@
 -- How the lines of a listing go on, one at a time, and the numbers of a well-formed one. Assumes nothing.
+use Rattle.std.specs.Prelude.{Ok, Err}
 use Rattle.std.proofs.Common.{one-add}
 use Prim.Native.Nat.{ℕ, zero, suc, ◌+◌, ◌*◌, ◌/◌, ◌%◌, ◌≤◌, ◌<◌}
 use mathlib.Core.Path.{◌≡◌, refl, ap, sym, ◌∙◌}
@@ -17,14 +18,13 @@ use Rattle.base.specs.Lines.{Lines, behind, line, split, line_at}
 use Rattle.base.proofs.Bools.{either, and_true, and_false}
 use Rattle.base.proofs.LinesLaws.{none_left}
 use Rattle.base.proofs.SearchLaws.{le_or_lt}
-use Rattle.listing.specs.Listing.{has_one, has_two, frames_in, preamble_of, skip, is_due, is_whole, batches, listing_of}
+use Rattle.listing.specs.Listing.{has_one, has_two, frames_in, preamble_of, skip, is_due, is_whole, batches, listing_of, Listing, well_formed}
 use Rattle.listing.specs.Words.{line_words, words_in, batch_words, words_of}
 use Rattle.listing.specs.Formed.{Limits}
 use Rattle.listing.specs.Scan.{line_from, words_met, words_decoded}
+use Rattle.listing.specs.declared.Shape.{Shape}
 use Rattle.listing.specs.declared.Fault.{Fault}
 use Rattle.listing.specs.declared.Fault.TheVariants.{Malformed, TooMany}
-use Rattle.listing.specs.declared.Listing.{Listing}
-use Rattle.listing.specs.declared.Listing.TheVariants.{WellFormed, Declined}
 use Rattle.listing.proofs.FirstLine.{false_of, two_front, first_line, lines_of, alone_line, pair_line, alone_inside, pair_inside, one_word, two_words}
 
 -- ---- lines of two words
@@ -93,7 +93,7 @@ frames_counted (suc n) d =
 -- ---- the preamble, then the batches
 
 module _ (s : List ℕ) (p : ℕ) (e : p ≡ preamble_of (split s)) where
-  pub listing_short : p < 9 → listing_of s ≡ Declined (Malformed (p + 1))
+  pub listing_short : p < 9 → listing_of s ≡ Err (Malformed (p + 1))
   unfolding listing_of
   listing_short h = rw (← e, lt-ltb p 9 h)
 
@@ -135,7 +135,7 @@ module _ (p q : ℕ) (d : List ℕ) where
   unfolding batches
   batches_more e h = ap (batches p q) (due_line e) ∙ rw (e, ne_eqb q 2700 h)
 
-  pub batches_over : is_due q (line_from d 0) ≡ true → q ≡ 2700 → batches p q (split d) ≡ Declined (TooMany (p + q + 1))
+  pub batches_over : is_due q (line_from d 0) ≡ true → q ≡ 2700 → batches p q (split d) ≡ Err (TooMany (p + q + 1))
   unfolding batches
   batches_over e h = ap (batches p q) (due_line e) ∙ rw (e, eq-eqb q 2700 h)
 
@@ -144,7 +144,7 @@ module _ (p q : ℕ) (d : List ℕ) where
   met_more e h = ap (words_met q) (due_line e) ∙ rw (e, ne_eqb q 2700 h)
 
   -- another line, or no newline any more
-  pub batches_stray : is_due q (line_from d 0) ≡ false → 0 < length d → batches p q (split d) ≡ Declined (Malformed (p + q + 1))
+  pub batches_stray : is_due q (line_from d 0) ≡ false → 0 < length d → batches p q (split d) ≡ Err (Malformed (p + q + 1))
   unfolding batches line_at
   batches_stray e h =
       ⊎_elim
@@ -154,7 +154,7 @@ module _ (p q : ℕ) (d : List ℕ) where
 
   -- a line behind 300 batches
   pub batches_full : q ≡ 2700 → 0 < length d
-      → batches p q (split d) ≡ Declined (cond (has_one (line_from d 0)) (TooMany (p + q + 1)) (Malformed (p + q + 1)))
+      → batches p q (split d) ≡ Err (cond (has_one (line_from d 0)) (TooMany (p + q + 1)) (Malformed (p + q + 1)))
   unfolding is_due
   batches_full e h =
       let first = eq-eqb (q % 9) 0 (omega arith) in
@@ -164,7 +164,7 @@ module _ (p q : ℕ) (d : List ℕ) where
       (either (has_one (line_from d 0)))
 
   -- the text ends
-  pub batches_end : length d ≡ 0 → batches p q (split d) ≡ cond (is_whole q) (WellFormed p (q / 9)) (Declined (Malformed (p + q + 1)))
+  pub batches_end : length d ≡ 0 → batches p q (split d) ≡ cond (is_whole q) (well_formed p (q / 9)) (Err (Malformed (p + q + 1)))
   unfolding batches
   batches_end h = ap (batches p q) (none_left d 0 (omega arith))
 
@@ -179,11 +179,7 @@ unfolding words_met
 met_full q (behind t) e = refl
 met_full q (line l ls) e = rw (eq-eqb q 2700 e, and_false (is_due q l))
 
--- behind 300 batches, where byte at is reached and done are the words up to there
-pub batches_full_at : (p q : ℕ) (s : List ℕ) (at : ℕ) → q ≡ 2700 → at < length s
-    → batches p q (split (drop at s)) ≡ Declined (cond (has_one (line_from s at)) (TooMany (p + q + 1)) (Malformed (p + q + 1)))
-batches_full_at p q s at e h = batches_full p q (drop at s) e (omega (arith, length-drop at s))
-
+-- behind 300 batches done are the words up to there
 pub met_full_behind : (done : List ℕ) (q : ℕ) (ls : Lines) → q ≡ 2700 → done ++ words_met q ls ≡ done
 met_full_behind done q ls e = ap (λ ws. done ++ ws) (met_full q ls e) ∙ append-nil done
 
@@ -205,19 +201,22 @@ whole_part q e = rw (ne_eqb (q % 9) 0 e) (and_false (ltb 0 q))
 
 -- ---- a well-formed listing
 
+ok_shape : {x y : Shape} → ◌≡◌ {A = Listing} (Ok x) (Ok y) → x ≡ y
+ok_shape e = cc
+
 -- the tests that led to it
-formed_yes : (p b : ℕ) (c : Bool) (x : Listing) (why : Fault) → cond c x (Declined why) ≡ WellFormed p b → (c ≡ true) × (x ≡ WellFormed p b)
+formed_yes : (p b : ℕ) (c : Bool) (x : Listing) (why : Fault) → cond c x (Err why) ≡ well_formed p b → (c ≡ true) × (x ≡ well_formed p b)
 formed_yes p b true x why e = (refl, e)
 formed_yes p b false x why e = absurd (let z : ◌≡◌ {A = ℕ} 0 1 = cc in omega arith)
 
-formed_no : (p b : ℕ) (c : Bool) (x : Listing) (why : Fault) → cond c (Declined why) x ≡ WellFormed p b → (c ≡ false) × (x ≡ WellFormed p b)
+formed_no : (p b : ℕ) (c : Bool) (x : Listing) (why : Fault) → cond c (Err why) x ≡ well_formed p b → (c ≡ false) × (x ≡ well_formed p b)
 formed_no p b true x why e = absurd (let z : ◌≡◌ {A = ℕ} 0 1 = cc in omega arith)
 formed_no p b false x why e = (refl, e)
 
 module _ (p q p' b : ℕ) where
   -- a line of it is due, and the rest is well-formed
-  pub line_formed : (l : List ℕ) (ls : Lines) → batches p q (line l ls) ≡ WellFormed p' b
-      → (is_due q l ≡ true) × (q ≡ 2700 → ⊥) × (batches p (q + 1) ls ≡ WellFormed p' b)
+  pub line_formed : (l : List ℕ) (ls : Lines) → batches p q (line l ls) ≡ well_formed p' b
+      → (is_due q l ≡ true) × (q ≡ 2700 → ⊥) × (batches p (q + 1) ls ≡ well_formed p' b)
   unfolding batches
   line_formed l ls e =
       let due = formed_yes p' b (is_due q l) _ _ e in
@@ -225,21 +224,22 @@ module _ (p q p' b : ℕ) where
       (due.0, eqb-false q 2700 few.0, few.1)
 
   -- it ends behind whole batches
-  pub end_formed : (t : List ℕ) → batches p q (behind t) ≡ WellFormed p' b → (p ≡ p') × (q ≡ 9 * b) × (1 ≤ b)
+  pub end_formed : (t : List ℕ) → batches p q (behind t) ≡ well_formed p' b → (p ≡ p') × (q ≡ 9 * b) × (1 ≤ b)
   unfolding batches is_whole
   end_formed t e =
       let ends = formed_yes p' b (eqb (length t) 0 && is_whole q) _ _ e in
       let whole = and_true (ltb 0 q) (eqb (q % 9) 0) (and_true (eqb (length t) 0) (is_whole q) ends.0).1 in
       let some = ltb-true 0 q whole.0 in
       let right = eqb-true (q % 9) 0 whole.1 in
-      let count : q / 9 ≡ b = cc ends.1 in
-      (cc ends.1, omega arith, omega arith)
+      let same = ok_shape ends.1 in
+      let count : q / 9 ≡ b = ap (λ (x : Shape). x.batches) same in
+      (ap (λ (x : Shape). x.preamble) same, omega arith, omega arith)
 
 pub below_limit : (q : ℕ) → q ≤ 2700 → (q ≡ 2700 → ⊥) → q + 1 ≤ 2700
 below_limit q h few = ⊎_elim (λ e. absurd (few e)) (λ (l : q < 2700). omega arith) (eq-or-lt_of_le h)
 
 -- its numbers are those of the lines
-pub batches_formed : (p q p' b : ℕ) (ls : Lines) → q ≤ 2700 → batches p q ls ≡ WellFormed p' b → (p ≡ p') × (q ≤ 9 * b) × (1 ≤ b) × (b ≤ 300)
+pub batches_formed : (p q p' b : ℕ) (ls : Lines) → q ≤ 2700 → batches p q ls ≡ well_formed p' b → (p ≡ p') × (q ≤ 9 * b) × (1 ≤ b) × (b ≤ 300)
 batches_formed p q p' b (behind t) h e = let f = end_formed p q p' b t e in (f.0, omega arith, f.2, omega arith)
 batches_formed p q p' b (line l ls) h e =
     let f = line_formed p q p' b l ls e in
@@ -247,8 +247,8 @@ batches_formed p q p' b (line l ls) h e =
     (rest.0, omega arith, rest.2, rest.3)
 
 -- they are within the limits, and the batches' lines start behind the preamble's
-pub listing_formed : (s : List ℕ) (p b : ℕ) → listing_of s ≡ WellFormed p b
-    → Limits p b × (skip p (split s) ≡ split (drop (18 * p) s)) × (batches p 0 (split (drop (18 * p) s)) ≡ WellFormed p b) × (p ≡ preamble_of (split s))
+pub listing_formed : (s : List ℕ) (p b : ℕ) → listing_of s ≡ well_formed p b
+    → Limits p b × (skip p (split s) ≡ split (drop (18 * p) s)) × (batches p 0 (split (drop (18 * p) s)) ≡ well_formed p b) × (p ≡ preamble_of (split s))
 unfolding listing_of
 listing_formed s p b e =
     let n = preamble_of (split s) in
@@ -260,19 +260,19 @@ listing_formed s p b e =
     let nine = ltb-false n 9 f.0 in (
       record { long = omega arith; short = omega arith; some = rest.2; few = rest.3 },
       rw (← same) cut,
-      rw (← same) (ap (batches n 0) (sym cut) ∙ f.1 ∙ ap (λ m. WellFormed m b) (sym same)),
+      rw (← same) (ap (batches n 0) (sym cut) ∙ f.1 ∙ ap (λ m. well_formed m b) (sym same)),
       sym same,
     )
 
 -- all its words are met
-met_all : (p q p' b : ℕ) (ls : Lines) → batches p q ls ≡ WellFormed p' b → words_met q ls ≡ words_in ls
+met_all : (p q p' b : ℕ) (ls : Lines) → batches p q ls ≡ well_formed p' b → words_met q ls ≡ words_in ls
 unfolding words_met words_in
 met_all p q p' b (behind t) e = refl
 met_all p q p' b (line l ls) e =
     let f = line_formed p q p' b l ls e in
     rw (f.0, ne_eqb q 2700 f.1) (ap (λ (ws : List ℕ). line_words l ++ ws) (met_all p (q + 1) p' b ls f.2))
 
-pub listing_decoded : (s : List ℕ) (p b : ℕ) → listing_of s ≡ WellFormed p b → words_decoded s ≡ words_of s
+pub listing_decoded : (s : List ℕ) (p b : ℕ) → listing_of s ≡ well_formed p b → words_decoded s ≡ words_of s
 listing_decoded s p b e =
     let f = listing_formed s p b e in
     decoded_long s p f.3 f.0.long ∙ met_all p 0 p b (split (drop (18 * p) s)) f.2 ∙ sym (ap (batch_words s) e ∙ ap words_in f.1)

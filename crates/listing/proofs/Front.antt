@@ -9,16 +9,15 @@ use native.Mathlib.Omega.{arith}
 use lib.Dec.{eqb}
 use lib.ListN.{length, take, drop, length-drop}
 use lib.Seq.{length-take-le, take_all, take-take}
+use Rattle.std.specs.Prelude.{Ok, Err}
 use Rattle.base.specs.Lines.{split}
 use Rattle.base.proofs.Bools.{either}
 use Rattle.base.proofs.ListLaws.{drop_take, tab-same}
 use Rattle.base.proofs.SearchLaws.{le_or_lt}
-use Rattle.listing.specs.Listing.{has_two, frames_in, preamble_of, is_due, batches, listing_of}
+use Rattle.listing.specs.Listing.{has_two, frames_in, preamble_of, is_due, batches, listing_of, Listing}
 use Rattle.listing.specs.Words.{words_of}
 use Rattle.listing.specs.Scan.{line_from}
 use Rattle.listing.specs.Front.{FrontSettles}
-use Rattle.listing.specs.declared.Listing.{Listing}
-use Rattle.listing.specs.declared.Listing.TheVariants.{WellFormed, Declined}
 use Rattle.listing.proofs.FirstLine.{one_front, two_front}
 use Rattle.listing.proofs.BatchLaws.{line_bytes, frames_more, frames_stop, frames_le, listing_short, listing_long, batches_more, batches_stray, batches_full}
 use Rattle.listing.proofs.Indexed.{word_at, words_before, bytes_more, words_indexed, formed}
@@ -88,12 +87,12 @@ module _ (s : List ℕ) (m : ℕ) (h : 46557 ≤ m) where
   word_front k f = rw (drop_take (9 * k) m s, take-take 8 (m - 9 * k) (drop (9 * k) s) (omega arith))
 
   words_front : (l : Listing) → listing_of (take m s) ≡ l → listing_of s ≡ l → words_of (take m s) ≡ words_of s
-  words_front (Declined why) e f = rw (e, f)
-  words_front (WellFormed p b) e f =
-      let few = (formed s p b f).limits in
-      words_indexed (take m s) p b e
-      ∙ tab-same (λ i. word_at (take m s) (2 * p + i)) (λ i. word_at s (2 * p + i)) (17 * b) (λ i l. word_front (2 * p + i) (omega (arith, few.short, few.few)))
-      ∙ sym (words_indexed s p b f)
+  words_front (Err why) e f = rw (e, f)
+  words_front (Ok shape) e f =
+      let few = (formed s shape.preamble shape.batches f).limits in
+      words_indexed (take m s) shape.preamble shape.batches e
+      ∙ tab-same (λ i. word_at (take m s) (2 * shape.preamble + i)) (λ i. word_at s (2 * shape.preamble + i)) (17 * shape.batches) (λ i l. word_front (2 * shape.preamble + i) (omega (arith, few.short, few.few)))
+      ∙ sym (words_indexed s shape.preamble shape.batches f)
 
 pub front_settles : FrontSettles
 front_settles s m h =

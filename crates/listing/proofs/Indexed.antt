@@ -9,19 +9,19 @@ use borrow.Author.Tests.{eqb-true, eqb-false}
 use lib.Dec.{eqb}
 use lib.ListN.{length, take, drop, replicate}
 use lib.Seq.{take-take, drop-drop, length-take-le}
+use Rattle.std.specs.Prelude.{Ok, Err, is_err}
 use Rattle.base.specs.Hex.{hex_number}
 use Rattle.base.specs.Lines.{Lines, behind, line, split, line_at}
 use Rattle.base.specs.Lists.{over, tab, padded}
-use Rattle.base.proofs.Bools.{either}
+use Rattle.base.proofs.Bools.{either, true_false}
 use Rattle.base.proofs.ListLaws.{drop_take, over_zeros, tab-length, tab-same}
-use Rattle.listing.specs.Listing.{has_one, has_two, is_due, batches, listing_of}
-use Rattle.listing.specs.Words.{line_words, words_in, batch_words, words_of}
-use Rattle.listing.specs.Scan.{words_decoded, words_kept}
+use Rattle.listing.specs.Listing.{has_one, has_two, is_due, batches, listing_of, Listing, well_formed}
+use Rattle.listing.specs.Words.{line_words, words_in, words_of}
+use Rattle.listing.specs.Scan.{words_decoded}
 use Rattle.listing.specs.Formed.{Formed}
 use Rattle.listing.specs.Answers.{decoded_of}
 use Rattle.listing.specs.declared.Decoded.{Decoded}
-use Rattle.listing.specs.declared.Listing.{Listing}
-use Rattle.listing.specs.declared.Listing.TheVariants.{WellFormed, Declined}
+use Rattle.listing.specs.declared.Shape.{Shape}
 use Rattle.listing.proofs.FirstLine.{alone, pair, alone_line, pair_line, pair_inside, one_word, two_words}
 use Rattle.listing.proofs.BatchLaws.{line_bytes, below_limit, line_formed, end_formed, batches_formed, listing_formed, listing_decoded}
 
@@ -81,7 +81,7 @@ bytes_more q =
 
 module _ (s : List ℕ) (p b : ℕ) where
   -- behind q lines
-  indexed : (ls : Lines) (q k n : ℕ) → split (drop (9 * k) s) ≡ ls → batches p q ls ≡ WellFormed p b → q ≤ 2700 → k ≡ 2 * p + words_before q → k + n ≡ 2 * p + 17 * b
+  indexed : (ls : Lines) (q k n : ℕ) → split (drop (9 * k) s) ≡ ls → batches p q ls ≡ well_formed p b → q ≤ 2700 → k ≡ 2 * p + words_before q → k + n ≡ 2 * p + 17 * b
       → words_in ls ≡ words_from s k n
   unfolding words_in is_due tab
   indexed (behind t) q k n e f h here all =
@@ -113,13 +113,13 @@ module _ (s : List ℕ) (p b : ℕ) where
       (either (eqb (q % 9) 0))
 
 -- the batches' words stand behind the two of each preamble line
-pub words_indexed : (s : List ℕ) (p b : ℕ) → listing_of s ≡ WellFormed p b → words_of s ≡ words_from s (2 * p) (17 * b)
+pub words_indexed : (s : List ℕ) (p b : ℕ) → listing_of s ≡ well_formed p b → words_of s ≡ words_from s (2 * p) (17 * b)
 words_indexed s p b e =
     let f = listing_formed s p b e in
     let z : 9 * (2 * p) ≡ 18 * p = omega arith in
     rw (e, f.1) (indexed s p b (split (drop (18 * p) s)) 0 (2 * p) (17 * b) (rw z) f.2 (omega arith) (omega arith) refl)
 
-pub formed : (s : List ℕ) (p b : ℕ) → listing_of s ≡ WellFormed p b → Formed s p b
+pub formed : (s : List ℕ) (p b : ℕ) → listing_of s ≡ well_formed p b → Formed s p b
 formed s p b e = record {
   limits = (listing_formed s p b e).0;
   count = ap length (words_indexed s p b e) ∙ tab-length (λ i. word_at s (2 * p + i)) (17 * b);
@@ -130,10 +130,10 @@ formed s p b e = record {
 abbrev decoded : Listing → List ℕ → Decoded
 decoded l words = record { listing = l; words = words }
 
-module _ (s : List ℕ) {blank words : List ℕ} (zeros : blank ≡ replicate 5100 0) (written : words ≡ over blank (words_decoded s)) where
-  kept_is : (l : Listing) → listing_of s ≡ l → words_kept l words ≡ padded 5100 (batch_words s l)
-  kept_is (Declined why) e = refl
-  kept_is (WellFormed p b) e = written ∙ ap₂ over zeros (listing_decoded s p b e) ∙ over_zeros 5100 (words_of s) ∙ ap (λ (l : Listing). padded 5100 (batch_words s l)) e
+module _ (s : List ℕ) {words : List ℕ} (written : words ≡ over (replicate 5100 0) (words_decoded s)) where
+  words_are : (shape : Shape) → listing_of s ≡ Ok shape → words ≡ padded 5100 (words_of s)
+  words_are shape e = written ∙ ap (over (replicate 5100 0)) (listing_decoded s shape.preamble shape.batches e) ∙ over_zeros 5100 (words_of s)
 
-  pub decoded_is : {l : Listing} {kept : List ℕ} → l ≡ listing_of s → kept ≡ words_kept l words → decoded l kept ≡ decoded_of s
-  decoded_is e k = ap₂ decoded e (k ∙ ap (λ (a : Listing). words_kept a words) e ∙ kept_is (listing_of s) refl)
+  pub decoded_is : (l : Listing) → l ≡ listing_of s → is_err l ≡ false → decoded l words ≡ decoded_of s
+  decoded_is (Ok shape) e h = ap₂ decoded e (words_are shape (sym e))
+  decoded_is (Err why) e h = absurd (true_false refl h)

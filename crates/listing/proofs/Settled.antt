@@ -6,14 +6,13 @@ use native.Mathlib.Omega.{arith}
 use lib.ListN.{length, replicate, length-append}
 use lib.Seq.{take_at}
 use borrow.Author.Tests.{lt-ltb, le-ltb}
+use Rattle.std.specs.Prelude.{Ok, Err}
 use Rattle.listing.specs.Answers.{number_of, place_of, preamble_lines, batches_of}
-use Rattle.listing.specs.Listing.{listing_of}
+use Rattle.listing.specs.Listing.{listing_of, Listing}
 use Rattle.listing.specs.Words.{words_of}
 use Rattle.listing.specs.Formed.{Front}
 use Rattle.listing.specs.Settled.{TextSettled, ListingSettled}
 use Rattle.listing.specs.declared.Fault.TheVariants.{Malformed, TooMany}
-use Rattle.listing.specs.declared.Listing.{Listing}
-use Rattle.listing.specs.declared.Listing.TheVariants.{WellFormed, Declined}
 use Rattle.listing.proofs.Indexed.{formed}
 
 pub text_settled : (words : List ℕ) (room : ℕ) → TextSettled words room
@@ -24,22 +23,22 @@ text_settled words room = record {
 }
 
 none_by : (l : Listing) → (number_of l ≡ 0 → ⊥) → (batches_of l ≡ 0) × (preamble_lines l ≡ 0)
-none_by (WellFormed p b) h = absurd (h refl)
-none_by (Declined why) h = (refl, refl)
+none_by (Ok shape) h = absurd (h refl)
+none_by (Err why) h = (refl, refl)
 
 unplaced_by : (l : Listing) → number_of l ≡ 0 → place_of l ≡ 0
-unplaced_by (WellFormed p b) h = refl
-unplaced_by (Declined (Malformed line)) h = absurd (omega arith)
-unplaced_by (Declined (TooMany line)) h = absurd (omega arith)
+unplaced_by (Ok shape) h = refl
+unplaced_by (Err (Malformed line)) h = absurd (omega arith)
+unplaced_by (Err (TooMany line)) h = absurd (omega arith)
 
 module _ (s : List ℕ) where
   words_by_lem : (l : Listing) → listing_of s ≡ l → length (words_of s) ≡ 17 * batches_of l
-  words_by_lem (WellFormed p b) e = (formed s p b e).count
-  words_by_lem (Declined why) e = rw e
+  words_by_lem (Ok shape) e = (formed s shape.preamble shape.batches e).count
+  words_by_lem (Err why) e = rw e
 
   few_by : (l : Listing) → listing_of s ≡ l → (batches_of l ≤ 300) × (preamble_lines l ≤ 36)
-  few_by (WellFormed p b) e = let f = (formed s p b e).limits in (f.few, f.short)
-  few_by (Declined why) e = (omega arith, omega arith)
+  few_by (Ok shape) e = let f = (formed s shape.preamble shape.batches e).limits in (f.few, f.short)
+  few_by (Err why) e = (omega arith, omega arith)
 
   pub listing_settled : ListingSettled s
   listing_settled = record {

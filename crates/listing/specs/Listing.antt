@@ -1,12 +1,19 @@
 -- What any byte string is as a listing (document 01, "Listings and reading" and numbers 21 and 23 of its table): its preamble
 -- lines and batches, or the fault of the first line that is not right.
-use Rattle.std.specs.Prelude.{ℕ, zero, suc, ◌+◌, ◌/◌, ◌%◌, List, Bool, cond, ◌&&◌, length, get_or, take, drop, ltb, eqb}
+use Rattle.std.specs.Prelude.{ℕ, zero, suc, ◌+◌, ◌/◌, ◌%◌, List, Bool, cond, ◌&&◌, length, get_or, take, drop, ltb, eqb, Result, Ok, Err}
 use Rattle.base.specs.Hex.{is_hex}
 use Rattle.base.specs.Leading.{leading}
 use Rattle.base.specs.Lines.{Lines, behind, line, split}
+use Rattle.listing.specs.declared.Fault.{Fault}
 use Rattle.listing.specs.declared.Fault.TheVariants.{Malformed, TooMany}
-use Rattle.listing.specs.declared.Listing.{Listing}
-use Rattle.listing.specs.declared.Listing.TheVariants.{WellFormed, Declined}
+use Rattle.listing.specs.declared.Shape.{Shape}
+
+-- what a byte string is: a listing of so many preamble lines and batches, or its fault
+abbrev pub Listing : Type 0
+Listing = Result Shape Fault
+
+abbrev pub well_formed : ℕ → ℕ → Listing
+well_formed p b = Ok (record { preamble = p; batches = b })
 
 -- a word: eight upper-case digits
 abbrev pub is_word : List ℕ → Bool
@@ -47,15 +54,15 @@ is_whole q = ltb 0 q && eqb (q % 9) 0
 -- behind p preamble lines and q lines of batches, from the top, as met: 21 at a line that is malformed or has no newline, and
 -- at the line after the last where the listing ends early; 23 at the first line of a 301st batch
 unfoldable pub batches : ℕ → ℕ → Lines → Listing
-batches p q (behind t) = cond (eqb (length t) 0 && is_whole q) (WellFormed p (q / 9)) (Declined (Malformed (p + q + 1)))
+batches p q (behind t) = cond (eqb (length t) 0 && is_whole q) (well_formed p (q / 9)) (Err (Malformed (p + q + 1)))
 batches p q (line l ls) =
     cond (is_due q l)
-    (cond (eqb q 2700) (Declined (TooMany (p + q + 1))) (batches p (q + 1) ls))
-    (Declined (Malformed (p + q + 1)))
+    (cond (eqb q 2700) (Err (TooMany (p + q + 1))) (batches p (q + 1) ls))
+    (Err (Malformed (p + q + 1)))
 
 -- p preamble lines, 9 at least, and the batches behind them
 abbrev pub judge : ℕ → Lines → Listing
-judge p ls = cond (ltb p 9) (Declined (Malformed (p + 1))) (batches p 0 ls)
+judge p ls = cond (ltb p 9) (Err (Malformed (p + 1))) (batches p 0 ls)
 
 -- what a byte string is as a listing
 unfoldable pub listing_of : List ℕ → Listing

@@ -1,12 +1,10 @@
 -- The way the code goes, by bytes: what its inner functions promise. No public promise needs it, and it is proved to come to the same
 -- as the lines.
-use Rattle.std.specs.Prelude.{ℕ, ◌+◌, List, [], ◌++◌, Option, Some, None, Bool, cond, ◌&&◌, not, length, drop, replicate, ltb, eqb}
+use Rattle.std.specs.Prelude.{ℕ, ◌+◌, List, [], ◌++◌, Option, Some, None, Bool, cond, ◌&&◌, not, length, drop, ltb, eqb}
 use Rattle.base.specs.Hex.{hex_number}
 use Rattle.base.specs.Lines.{Lines, behind, line, split, line_at}
 use Rattle.listing.specs.Listing.{has_one, has_two, preamble_of, skip, is_due}
 use Rattle.listing.specs.Words.{line_words}
-use Rattle.listing.specs.declared.Listing.{Listing}
-use Rattle.listing.specs.declared.Listing.TheVariants.{WellFormed, Declined}
 
 -- the line that starts at a byte; empty where no newline follows
 abbrev pub line_from : List ℕ → ℕ → List ℕ
@@ -38,8 +36,3 @@ met_behind p ls = cond (ltb p 9) [] (words_met 0 (skip p ls))
 
 unfoldable pub words_decoded : List ℕ → List ℕ
 words_decoded s = met_behind (preamble_of (split s)) (split s)
-
--- the words that are kept of them: none where the text is declined
-abbrev pub words_kept : Listing → List ℕ → List ℕ
-words_kept (WellFormed p b) words = words
-words_kept (Declined why) words = replicate 5100 0

@@ -1,20 +1,20 @@
 // A transmission as text, and the words of such a text (document 01, "Listings and reading").
 #![tactic(auto)]
 
-ghost use Rattle.std.specs.Prelude.{◌≡◌, cond, ◌*◌, ◌≤◌, length, drop, replicate};
+ghost use Rattle.std.specs.Prelude.{◌≡◌, cond, ◌*◌, ◌≤◌, length, drop};
 ghost use Rattle.base.specs.Lines.{split};
 ghost use Rattle.base.specs.Lists.{over};
 ghost use Rattle.listing.specs.Text.{end_of};
 ghost use Rattle.listing.specs.Listing.{has_one, preamble_of, is_due, batches, listing_of};
 ghost use Rattle.listing.specs.Answers.{number_of, place_of, batches_of, decoded_of};
 ghost use Rattle.listing.specs.Writing.{writing_of, after_write};
-ghost use Rattle.listing.specs.Scan.{line_from, one_of, two_of, count_if, words_if, words_met, words_decoded, words_kept};
+ghost use Rattle.listing.specs.Scan.{line_from, one_of, two_of, count_if, words_if, words_met, words_decoded};
 ghost use Rattle.listing.specs.declared.Fault.TheVariants.{Malformed, TooMany};
 
 use base::HexWord;
 
 // Why a byte string is no listing. A line is counted from 1.
-#[derive(Clone, Copy)]
+#[derive(Clone, Copy, PartialEq, Eq)]
 pub enum Fault {
     // This line is malformed or has no newline, or the text ends before it.
     Malformed(usize),
@@ -22,72 +22,51 @@ pub enum Fault {
     TooMany(usize),
 }
 
-// What a byte string is as a listing.
-#[derive(Clone, Copy)]
-pub enum Listing {
-    // So many preamble lines, and so many batches behind them.
-    WellFormed { preamble: usize, batches: usize },
-    Declined(Fault),
+// The lines of a well-formed listing.
+#[derive(Clone, Copy, PartialEq, Eq)]
+pub struct Shape {
+    // So many preamble lines.
+    pub preamble: usize,
+    // So many batches behind them.
+    pub batches: usize,
 }
 
 // What a byte string is as a listing, and the words of its batches. Zeros stand behind them, and everywhere where it is declined.
 #[derive(Clone, Copy)]
 pub struct Decoded {
-    pub listing: Listing,
+    pub listing: Result<Shape, Fault>,
     pub words: [u32; 5100],
 }
 
-// What writing a listing answers.
-#[derive(Clone, Copy)]
-pub enum Writing {
-    // How many bytes are written.
-    Bytes(usize),
-    // The lent slice is shorter than the listing: number 10.
-    NoRoom,
-}
-
 // How many batches a listing has; none where it is declined.
-pub fn batch_count(l: Listing) -> usize
+pub fn batch_count(l: Result<Shape, Fault>) -> usize
     ensures { result ≡ batches_of l }
 {
     match l {
-        Listing::WellFormed {
-            preamble: _,
-            batches,
-        } => batches,
-        Listing::Declined(_) => 0,
+        Ok(shape) => shape.batches,
+        Err(_) => 0,
     }
 }
 
 // The number of a byte string in the table; 0 where it is a listing.
-pub fn number(l: Listing) -> u32
+pub fn number(l: Result<Shape, Fault>) -> u32
     ensures { result ≡ number_of l }
 {
     match l {
-        Listing::WellFormed {
-            preamble: _,
-            batches: _,
-        } => 0,
-        Listing::Declined(why) => match why {
-            Fault::Malformed(_) => 21,
-            Fault::TooMany(_) => 23,
-        },
+        Ok(_) => 0,
+        Err(Fault::Malformed(_)) => 21,
+        Err(Fault::TooMany(_)) => 23,
     }
 }
 
 // Its place; 0 where it is a listing.
-pub fn place(l: Listing) -> usize
+pub fn place(l: Result<Shape, Fault>) -> usize
     ensures { result ≡ place_of l }
 {
     match l {
-        Listing::WellFormed {
-            preamble: _,
-            batches: _,
-        } => 0,
-        Listing::Declined(why) => match why {
-            Fault::Malformed(line) => line,
-            Fault::TooMany(line) => line,
-        },
+        Ok(_) => 0,
+        Err(Fault::Malformed(line)) => line,
+        Err(Fault::TooMany(line)) => line,
     }
 }
 
@@ -162,8 +141,8 @@ fn fault_behind(s: &[u8], line: usize) -> Fault
 }
 
 // Reads the batches behind p preamble lines, up to the first line that is not right, and writes their words.
-#[tactic(auto, using(crate::proofs::BatchLaws::batches_full_at, crate::proofs::BatchLaws::met_full_behind))]
-fn read_batches(s: &[u8], p: usize, words: &mut [u32]) -> Listing
+#[tactic(auto, using(crate::proofs::BatchLaws::met_full_behind))]
+fn read_batches(s: &[u8], p: usize, words: &mut [u32]) -> Result<Shape, Fault>
     requires { (p ≤ 36) × (18 * p ≤ length s.now) × (5100 ≤ length words.old) }
     ensures value { result ≡ batches p 0 (split (drop (18 * p) s.now)) }
     ensures words_after { words.new ≡ over words.old (words_met 0 (split (drop (18 * p) s.now))) }
@@ -174,74 +153,49 @@ fn read_batches(s: &[u8], p: usize, words: &mut [u32]) -> Listing
     while at < s.len() {
         let line = p + q + 1;
         if q == 2700 {
-            return Listing::Declined(fault_behind(&s[at..], line));
+            return Err(fault_behind(&s[at..], line));
         }
-        let Some(n) = read_line(&s[at..], q, &mut words[k..]) else {
-            return Listing::Declined(Fault::Malformed(line));
-        };
+        let n = read_line(&s[at..], q, &mut words[k..]).ok_or(Fault::Malformed(line))?;
         at += 9 * n;
         k += n;
         q += 1;
     }
     if q == 0 {
-        return Listing::Declined(Fault::Malformed(p + 1));
+        return Err(Fault::Malformed(p + 1));
     }
     if q % 9 != 0 {
-        return Listing::Declined(Fault::Malformed(p + q + 1));
+        return Err(Fault::Malformed(p + q + 1));
     }
-    Listing::WellFormed {
+    Ok(Shape {
         preamble: p,
         batches: q / 9,
-    }
+    })
 }
 
 // Reads a text as a listing. The words of the batches are written over the front of the array as they are read, also those before a
 // fault. Each digit is read once.
 #[tactic(auto, using(crate::proofs::BatchLaws::listing_short, crate::proofs::BatchLaws::decoded_short))]
-fn read_text(s: &[u8], words: &mut [u32; 5100]) -> Listing
+fn read_text(s: &[u8], words: &mut [u32; 5100]) -> Result<Shape, Fault>
     ensures value { result ≡ listing_of s.now }
     ensures words_after { words.new ≡ over words.old (words_decoded s.now) }
 {
     let p = preamble_lines(s);
     if p < 9 {
-        return Listing::Declined(Fault::Malformed(p + 1));
+        return Err(Fault::Malformed(p + 1));
     }
     read_batches(s, p, words)
-}
-
-// Room for the words of 300 batches.
-fn blank_words() -> [u32; 5100]
-    ensures { result ≡ replicate 5100 0 }
-{
-    [0u32; 5100]
-}
-
-// Clears the words of a text that is declined.
-fn clear_declined(l: Listing, words: &mut [u32; 5100])
-    ensures { words.new ≡ words_kept l words.old }
-{
-    match l {
-        Listing::WellFormed {
-            preamble: _,
-            batches: _,
-        } => {}
-        Listing::Declined(_) => {
-            *words = blank_words();
-        }
-    }
 }
 
 // A listing's preamble lines and batches with the batches' words, or the fault of the first line that is not right.
 pub fn decode(s: &[u8]) -> Decoded
     ensures { result ≡ decoded_of s.now }
 {
-    let mut words = blank_words();
+    let mut words = [0; 5100];
     let listing = read_text(s, &mut words);
-    clear_declined(listing, &mut words);
-    Decoded {
-        listing: listing,
-        words: words,
+    if listing.is_err() {
+        words.fill(0);
     }
+    Decoded { listing, words }
 }
 
 // The byte behind word k: a space where another word follows on its line, otherwise a newline.
@@ -257,13 +211,14 @@ fn word_end(k: usize) -> u8
     if opens { b' ' } else { b'\n' }
 }
 
-// Writes the listing of a transmission's words, and answers how many bytes it has. What stands behind them keeps its value.
-pub fn write(words: &[u32], out: &mut [u8]) -> Writing
+// Writes the listing of a transmission's words, and answers how many bytes it has; none, which is number 10, where the slice is shorter.
+// What stands behind them keeps its value.
+pub fn write(words: &[u32], out: &mut [u8]) -> Option<usize>
     ensures value { result ≡ writing_of words.now (length out.old) }
     ensures out_after { out.new ≡ after_write words.now out.old }
 {
     if out.len() / 9 < words.len() {
-        return Writing::NoRoom;
+        return None;
     }
     for (k, word) in words.iter().enumerate() {
         let at = 9 * k;
@@ -271,5 +226,5 @@ pub fn write(words: &[u32], out: &mut [u8]) -> Writing
         base::write_digits(&mut out[at..stop], *word);
         out[stop] = word_end(k);
     }
-    Writing::Bytes(9 * words.len())
+    Some(9 * words.len())
 }

@@ -4,13 +4,14 @@ use mathlib.Core.List.{List}
 use native.Mathlib.Omega.{arith}
 use lib.ListN.{length, take, drop, length-drop}
 use lib.Seq.{take_all}
+use Rattle.std.specs.Prelude.{Err}
+use Rattle.std.proofs.Common.{rules, Some, None}
 use Rattle.base.specs.Lists.{over}
 use Rattle.listing.specs.Listing.{is_due}
 use Rattle.listing.specs.Scan.{line_from, count_if, words_if}
-use Rattle.listing.specs.declared.Listing.TheVariants.{Declined}
 use Rattle.listing.proofs.BatchLaws.{batches_full, batches_stray, batches_end, met_end, whole_yes, whole_none, whole_part}
 use Rattle.listing.proofs.Decoding.{read_on, met, read_none, none_read, some_read}
-use Rattle.listing.proofs.read_batches.Goals.{After-read_line, At-loop-at, In-Some}
+use Rattle.listing.proofs.read_batches.Goals.{After-read_line, At-loop-at, In_ok-n}
 use Rattle.listing.proofs.read_batches.Goals as goal
 
 -- the slice from a byte on is what is left there
@@ -59,15 +60,18 @@ pub returns-then-q-eq2700-clause-value : goal.returns-then-q-eq2700-clause-value
 returns-then-q-eq2700-clause-value c =
     let l = (goal.at.returns-then-q-eq2700-clause-value c).At-loop-at in
     let fault = rw (here (s l) c.loop-at.at) at c.fault_behind.ensures in
-    ap Declined fault ∙ sym (c.loop-at.invariant.left ∙ batches_full (p l) (q l) (d l) c.if-q-eq2700.true (more l c.loop-at-test.true))
+    ap Err fault ∙ sym (c.loop-at.invariant.left ∙ batches_full (p l) (q l) (d l) c.if-q-eq2700.true (more l c.loop-at-test.true))
 
-pub returns-in_default : goal.returns-in_default
-returns-in_default c =
+pub returns-in_err-n : goal.returns-in_err-n
+returns-in_err-n c =
     let few : c.loop-at.q ≡ 2700 → ⊥ = λ e. omega arith in
-    let l = (goal.at.returns-in_default c).At-loop-at in
-    let r = (goal.at.returns-in_default c).After-read_line in
-    let other = none_read (line l) (sym (count r) ∙ c.in_default.is) in record {
-      value = sym (c.loop-at.invariant.left ∙ batches_stray (p l) (q l) (d l) other (more l c.loop-at-test.true));
+    let l = (goal.at.returns-in_err-n c).At-loop-at in
+    let r = (goal.at.returns-in_err-n c).After-read_line in
+    let nothing : c.read_line.result ≡ None = search rules in
+    let other = none_read (line l) (sym (count r) ∙ nothing) in
+    let stray = c.loop-at.invariant.left ∙ batches_stray (p l) (q l) (d l) other (more l c.loop-at-test.true) in
+    record {
+      value = search rules;
       words_after = read_none (room l) c.loop-at.invariant few other (part r);
     }
 
@@ -77,14 +81,15 @@ loop-at-preserved c =
     let few : c.loop-at.q ≡ 2700 → ⊥ = λ e. omega arith in
     let l = (goal.at.loop-at-preserved c).At-loop-at in
     let r = (goal.at.loop-at-preserved c).After-read_line in
-    let right = some_read (line l) (sym (count r) ∙ c.in-Some.is) in
+    let read : c.read_line.result ≡ Some c.in_ok-n.n = search rules in
+    let right = some_read (line l) (sym (count r) ∙ read) in
     read_on (room l) c.loop-at.invariant few right.0 right.1 (part r)
 
 pub overflow_mul-at-in-loop-at : goal.overflow_mul-at-in-loop-at
-overflow_mul-at-in-loop-at c = omega (arith, (loop-at-preserved (goal.at.overflow_mul-at-in-loop-at c).In-Some).inside)
+overflow_mul-at-in-loop-at c = omega (arith, (loop-at-preserved (goal.at.overflow_mul-at-in-loop-at c).In_ok-n).inside)
 
 pub overflow_add-at : goal.overflow_add-at
-overflow_add-at c = omega (arith, (loop-at-preserved (goal.at.overflow_add-at c).In-Some).inside)
+overflow_add-at c = omega (arith, (loop-at-preserved (goal.at.overflow_add-at c).In_ok-n).inside)
 
 pub returns-then-q-eq0 : goal.returns-then-q-eq0
 returns-then-q-eq0 c =
