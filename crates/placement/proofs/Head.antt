@@ -2,12 +2,15 @@
 use mathlib.Core.Path.{◌≡◌, sym, ◌∙◌}
 use mathlib.Core.Bool.{Bool, true, false, cond}
 use mathlib.Core.List.{List}
+use mathlib.Core.Logic.{⊎_elim}
+use Rattle.std.specs.Prelude.{Option, Some, None}
+use Rattle.std.specs.Option.{unwrap_or}
+use Rattle.base.proofs.SearchLaws.{le_or_lt}
 use Prim.Native.Nat.{ℕ, ◌+◌, ◌-◌, ◌≤◌, ◌<◌}
 use native.Mathlib.Omega.{arith}
 use lib.ListN.{length, get_or, set}
 use Rattle.placement.specs.Placement.{Job, State, Framed, frame_of, may_start, ready, state_at, job_of}
-use Rattle.placement.specs.declared.Start.{Start}
-use Rattle.placement.specs.declared.Start.TheVariants.{Page, Idle}
+use Rattle.placement.specs.Searching.{starts_at, NoneFrom, FirstFrom}
 use Rattle.placement.proofs.Sendable.{Sendable}
 use Rattle.placement.proofs.Placed.{limits}
 use Rattle.placement.proofs.Steps.{At, Passed, Open, at_runs, at_starts, at_rests, marks_length, sent_few, asked, open_slot}
@@ -22,9 +25,9 @@ pub record Head (frames words : List ℕ) (slot : ℕ) (marks next : List ℕ) (
   pub skips : Skips (job_of frames words) marks next
 
 -- what the search yields: the first page that may start in the slot, or nothing
-abbrev pub Found : Job → ℕ → State → Start → Type 0
-Found job s st (Page p) = (p < job.pages) × (ready job s st p ≡ true) × Passed job s st p
-Found job s st Idle = Passed job s st job.pages
+abbrev pub Found : Job → ℕ → State → Option ℕ → Type 0
+Found job s st (Some p) = (p < job.pages) × (ready job s st p ≡ true) × Passed job s st p
+Found job s st None = Passed job s st job.pages
 
 module _ {frames words : List ℕ} {slot : ℕ} {marks next : List ℕ} {left sent : ℕ} {pause : Bool} (h : Head frames words slot marks next left sent pause) where
   pub framed : Framed (job_of frames words)
@@ -53,19 +56,23 @@ module _ {frames words : List ℕ} {slot : ℕ} {marks next : List ℕ} {left se
   skipped = skips_passed (job_of frames words) framed slot marks left sent pause h.before next h.skips
 
   -- what the search in the slot yields
-  abbrev pub Yields : Start → Type 0
+  abbrev pub Yields : Option ℕ → Type 0
   Yields start = Found (job_of frames words) slot (state_at (job_of frames words) slot) start
 
-  -- the search at page i, where no page below it may start
-  module _ {i : ℕ} (p : Passed (job_of frames words) slot (state_at (job_of frames words) slot) i) where
-    -- it ends at the page, if the code's answer is yes
-    pub page_found : {answer : Bool} → i < length frames → answer ≡ may_start (get_or marks i 0) (get_or frames i 0) (get_or words i 0) pause slot → answer ≡ true → Yields (Page i)
-    page_found l a e = (l, sym (asked_of i) ∙ sym a ∙ e, p)
+  -- no page below i may start, if none does from where the search begins
+  passed_to : (i : ℕ) → NoneFrom (starts_at marks frames words pause slot) (get_or next (frame_of slot) 0) i
+      → Passed (job_of frames words) slot (state_at (job_of frames words) slot) i
+  passed_to i none k l = ⊎_elim (λ low. sym (asked_of k) ∙ none k low l) (λ below. skipped k below) (le_or_lt (get_or next (frame_of slot) 0) k)
 
-    -- where it ends, the next search in the same frame starts; but after a pause where it started
-    pub searched : {v : ℕ} → i ≤ length frames → v ≡ cond pause (get_or next (frame_of slot) 0) i
-        → Skips (job_of frames words) marks (set next (frame_of slot) v)
-    searched w e = rw e (skips_found (job_of frames words) framed slot marks left sent pause h.before next h.skips i w p)
+  pub yields : (start : Option ℕ) → FirstFrom (starts_at marks frames words pause slot) (get_or next (frame_of slot) 0) (length frames) start → Yields start
+  yields (Some p) f = (f.1, sym (asked_of p) ∙ f.2, passed_to p f.3)
+  yields None f = passed_to (length frames) f
+
+  -- where it ends, the next search in the same frame starts; but after a pause where it started
+  pub searched : (start : Option ℕ) {v : ℕ} → Yields start → v ≡ cond pause (get_or next (frame_of slot) 0) (unwrap_or start (length frames))
+      → Skips (job_of frames words) marks (set next (frame_of slot) v)
+  searched (Some p) f e = rw e (skips_found (job_of frames words) framed slot marks left sent pause h.before next h.skips p (omega arith) f.2)
+  searched None f e = rw e (skips_found (job_of frames words) framed slot marks left sent pause h.before next h.skips (length frames) (omega arith) f)
 
   -- what the code has after the slot
   abbrev pub After : (marks' next' : List ℕ) (left' sent' : ℕ) (pause' : Bool) → Type 0
@@ -75,12 +82,12 @@ module _ {frames words : List ℕ} {slot : ℕ} {marks next : List ℕ} {left se
   pub after_message : 0 < left → After marks next (left - 1) sent true
   after_message m = (at_runs (job_of frames words) framed slot marks left sent pause h.before m, h.skips)
 
-  pub after_page : {i : ℕ} {next' : List ℕ} → left ≡ 0 → Yields (Page i) → Skips (job_of frames words) marks next'
+  pub after_page : {i : ℕ} {next' : List ℕ} → left ≡ 0 → Yields (Some i) → Skips (job_of frames words) marks next'
       → After (set marks i (slot + 1)) next' (get_or words i 0) (sent + 1) false
   after_page {i} z f k = (
     at_starts (job_of frames words) framed slot marks left sent pause h.before i z f.0 f.1 f.2,
     skips_more (job_of frames words) marks _ i slot (omega (arith, f.0, length_is)) k,
   )
 
-  pub after_nothing : {next' : List ℕ} → left ≡ 0 → Yields Idle → Skips (job_of frames words) marks next' → After marks next' left sent false
+  pub after_nothing : {next' : List ℕ} → left ≡ 0 → Yields None → Skips (job_of frames words) marks next' → After marks next' left sent false
   after_nothing z f k = (at_rests (job_of frames words) framed slot marks left sent pause h.before z f, k)

@@ -1,17 +1,19 @@
 -- What `is_sendable` says, and how it is found page by page. Assumes nothing.
-use mathlib.Core.Path.{◌≡◌, refl, sym}
+use mathlib.Core.Path.{◌≡◌, refl, sym, ap, ◌∙◌}
 use mathlib.Core.Bool.{true, false, ◌&&◌}
 use mathlib.Core.List.{List, [], ◌∷◌}
 use mathlib.Core.Logic.{⊎_elim}
-use Prim.Native.Nat.{ℕ, zero, suc, ◌+◌, ◌-◌, ◌≤◌, ◌<◌, zero-le, suc-le-suc}
-use native.Mathlib.Nat.{le_of_suc-le-suc, not-suc-le-zero, eq-or-lt_of_le, add-suc}
+use Prim.Native.Nat.{ℕ, zero, suc, ◌+◌, ◌≤◌, ◌<◌, zero-le, suc-le-suc}
+use native.Mathlib.Nat.{le_of_suc-le-suc, not-suc-le-zero}
 use native.Mathlib.Omega.{arith}
 use lib.Dec.{eqb, leb, ltb}
 use lib.ListN.{length, get_or}
 use borrow.Author.Tests.{ltb-true, leb-true, eqb-true, lt-ltb, le-leb, eq-eqb}
+use Rattle.std.specs.Prelude as list
+use Rattle.std.specs.List.{list_all}
+use Rattle.std.proofs.lemmas.List.Sums.{sum_by-cons}
 use Rattle.base.specs.Search.{sum}
 use Rattle.base.proofs.Bools.{either, and_true, and_both}
-use Rattle.base.proofs.SearchLaws.{sum_next}
 use Rattle.placement.specs.Placement.{Framed, messages, job_of, all_framed, is_sendable}
 
 -- a job that can be sent
@@ -53,33 +55,31 @@ of_sendable {frames} {words} s =
     (and_both (and_both (eq-eqb (length words) (length frames) s.paired) (le-leb (length frames) 48 s.few)) (framed_all frames s.framed))
     (le-leb (messages (job_of frames words)) 4032 s.short)
 
--- ---- page by page
+-- ---- by the two lists
 
-sum_more : (f : ℕ → ℕ) (n k : ℕ) → sum f n ≤ sum f (n + k)
+all_framed_is : (frames : List ℕ) → all_framed frames ≡ list_all (λ f. ltb f 8) frames
+unfolding all_framed
+all_framed_is [] = refl
+all_framed_is (f ∷ frames) = rw (all_framed_is frames)
+
+sum_first : (f : ℕ → ℕ) (n : ℕ) → sum f (suc n) ≡ f 0 + sum (λ k. f (suc k)) n
 unfolding sum
-sum_more f n zero = let e : n + 0 ≡ n = omega arith in rw e (omega arith)
-sum_more f n (suc k) = let a : sum f n ≤ sum f (n + k) = sum_more f n k in rw (add-suc n k) (omega arith)
+sum_first f zero = omega arith
+sum_first f (suc n) = omega (arith, sum_first f n)
 
--- the pages before page i have frames 0 to 7, and so many message codewords that `left` more make 4,032
-pub record Fitting (frames words : List ℕ) (left i : ℕ) : Type 0 where
-  pub within : i ≤ length frames
-  pub framed : (k : ℕ) → k < i → get_or frames k 0 < 8
-  pub rest : left + sum (λ k. get_or words k 0) i ≡ 4032
+sum_list : (xs : List ℕ) → sum (λ k. get_or xs k 0) (length xs) ≡ list.sum xs
+unfolding sum
+sum_list [] = refl
+sum_list (x ∷ xs) = sum_first (λ k. get_or (x ∷ xs) k 0) (length xs) ∙ ap (λ (n : ℕ). x + n) (sum_list xs) ∙ sym (sum_by-cons (λ (n : ℕ). n) x xs)
 
 module _ (frames words : List ℕ) where
-  pub fitting_start : Fitting frames words 4032 0
-  unfolding sum
-  fitting_start = record { within = zero-le; framed = λ k h. absurd (not-suc-le-zero h); rest = refl }
-
-  pub fitting_more : {left i : ℕ} → Fitting frames words left i → i < length frames → get_or frames i 0 ≤ 7 → get_or words i 0 ≤ left
-      → Fitting frames words (left - get_or words i 0) (i + 1)
-  fitting_more {left} {i} s l f w =
-      let more : sum (λ k. get_or words k 0) i + get_or words i 0 ≡ sum (λ k. get_or words k 0) (i + 1) = sum_next (λ k. get_or words k 0) i refl refl in
-      record {
-        within = omega arith;
-        framed = λ k h. ⊎_elim (λ (e : k ≡ i). rw e (omega arith)) (λ m. s.framed k m) (eq-or-lt_of_le (omega arith));
-        rest = omega (arith, s.rest);
-      }
+  -- the test as the code makes it
+  pub by_lists : length words ≡ length frames → length frames ≤ 48
+      → is_sendable frames words ≡ (list_all (λ f. ltb f 8) frames && leb (list.sum words) 4032)
+  unfolding is_sendable
+  by_lists p f =
+      let all : messages (job_of frames words) ≡ list.sum words = rw (← p) (sum_list words) in
+      rw (all, all_framed_is frames, eq-eqb (length words) (length frames) p, le-leb (length frames) 48 f)
 
   -- each answer of the code
   not_sendable : (Sendable frames words → ⊥) → false ≡ is_sendable frames words
@@ -90,19 +90,3 @@ module _ (frames words : List ℕ) where
 
   pub many : 48 < length frames → false ≡ is_sendable frames words
   many h = not_sendable (λ s. omega (arith, s.few))
-
-  pub unframed : (i : ℕ) → i < length frames → 7 < get_or frames i 0 → false ≡ is_sendable frames words
-  unframed i l h = not_sendable (λ s. omega (arith, s.framed i l))
-
-  pub long : {left i : ℕ} → Fitting frames words left i → i < length frames → left < get_or words i 0 → false ≡ is_sendable frames words
-  long {left} {i} t l h =
-      let more : sum (λ k. get_or words k 0) i + get_or words i 0 ≡ sum (λ k. get_or words k 0) (i + 1) = sum_next (λ k. get_or words k 0) i refl refl in
-      let all : i + 1 + (length frames - (i + 1)) ≡ length frames = omega arith in
-      let most : sum (λ k. get_or words k 0) (i + 1) ≤ sum (λ k. get_or words k 0) (length frames) = rw all at (sum_more (λ k. get_or words k 0) (i + 1) (length frames - (i + 1))) in
-      not_sendable (λ s. omega (arith, s.short, t.rest))
-
-  pub sent : {left i : ℕ} → length words ≡ length frames → length frames ≤ 48 → Fitting frames words left i → length frames ≤ i → true ≡ is_sendable frames words
-  sent {left} {i} p f t h =
-      let e : i ≡ length frames = omega (arith, t.within) in
-      let rest : left + sum (λ k. get_or words k 0) (length frames) ≡ 4032 = rw e at t.rest in
-      sym (of_sendable (record { framed = λ k l. t.framed k (omega arith); few = f; short = omega arith; paired = p }))

@@ -1,3 +1,4 @@
 pub mod Placement
+pub mod Searching
 pub mod Promise
 pub mod Examples

@@ -4,38 +4,14 @@
 ghost use Rattle.std.specs.Prelude.{◌≡◌, true, not, cond, ◌&&◌, map, pred, ◌*◌, ◌%◌, eqb, length, replicate};
 ghost use Rattle.base.specs.Lists.{over};
 ghost use Rattle.placement.specs.Placement.{is_sendable, job_of, may_start, state_at, batches, slots, batches_in, slots_in};
-
-// What a free slot starts: a page, by its number in the job, or nothing.
-#[derive(Clone, Copy)]
-enum Start {
-    Page(usize),
-    Idle,
-}
-
-// Every mark to 0: no page is sent.
-fn clear(marks: &mut [u32])
-    ensures { marks.new ≡ replicate (length marks.old) 0 }
-{
-    let n = marks.len();
-    let mut i = 0;
-    while i < n {
-        marks[i] = 0;
-        i += 1;
-    }
-}
+ghost use Rattle.placement.specs.Searching.{starts_at, FirstFrom};
 
 // Every mark, one more than a slot, to the slot.
 fn unmark(marks: &mut [u32])
     ensures { marks.new ≡ map pred marks.old }
 {
-    let n = marks.len();
-    let mut i = 0;
-    while i < n {
-        let mark = marks[i];
-        if 0 < mark {
-            marks[i] = mark - 1;
-        }
-        i += 1;
+    for mark in marks.iter_mut() {
+        *mark = mark.saturating_sub(1);
     }
 }
 
@@ -45,17 +21,8 @@ fn unmark(marks: &mut [u32])
 pub fn may_start(mark: u32, frame: u8, words: u32, pause: bool, slot: u32) -> bool
     ensures { result ≡ may_start mark frame words pause slot }
 {
-    if mark != 0 {
-        return false;
-    }
     let here = (slot % 16 / 2) as u8;
-    if frame != here {
-        return false;
-    }
-    if pause {
-        return words == 0;
-    }
-    true
+    mark == 0 && frame == here && (!pause || words == 0)
 }
 
 // Where a frame's next search starts: where one ended that started at `from`, or again at `from` after a pause, which passes over pages
@@ -63,53 +30,41 @@ pub fn may_start(mark: u32, frame: u8, words: u32, pause: bool, slot: u32) -> bo
 fn search_from(pause: bool, from: usize, end: usize) -> usize
     ensures { result ≡ cond pause from end }
 {
-    if pause {
-        return from;
-    }
-    end
+    if pause { from } else { end }
 }
 
 // Whether a batch ends before this slot, the slot before held no message codeword, none is left, and all n pages are sent.
 fn at_end(slot: u32, message: bool, left: u32, sent: usize, n: usize) -> bool
     ensures { result ≡ (eqb (slot % 16) 0 && not message && eqb left 0 && eqb sent n) }
 {
-    if slot % 16 != 0 {
-        return false;
-    }
-    if message {
-        return false;
-    }
-    if left != 0 {
-        return false;
-    }
-    sent == n
+    slot % 16 == 0 && !message && left == 0 && sent == n
 }
 
 // Whether a job can be sent, by its pages' frames and numbers of message codewords.
 fn is_sendable(frames: &[u8], words: &[u32]) -> bool
     ensures { result ≡ is_sendable frames.now words.now }
 {
-    let n = frames.len();
-    if words.len() != n {
+    if words.len() != frames.len() || 48 < frames.len() {
         return false;
     }
-    if 48 < n {
-        return false;
-    }
-    let mut left: u32 = 4032;
-    let mut i = 0;
-    while i < n {
-        if 7 < frames[i] {
-            return false;
-        }
-        let count = words[i];
-        if left < count {
-            return false;
-        }
-        left -= count;
-        i += 1;
-    }
-    true
+    frames.iter().all(|&frame| frame < 8)
+        && words.iter().map(|&count| u64::from(count)).sum::<u64>() <= 4032
+}
+
+// The first page, from the page `from` on, that may start in this slot.
+fn first_from(
+    from: usize,
+    marks: &[u32],
+    frames: &[u8],
+    words: &[u32],
+    pause: bool,
+    slot: u32,
+) -> Option<usize>
+    requires marks_length { length marks.now ≡ length frames.now }
+    requires words_length { length words.now ≡ length frames.now }
+    ensures { FirstFrom (starts_at marks.now frames.now words.now pause slot) from (length frames.now) result }
+{
+    (from..frames.len()).find(|&i| may_start(marks[i], frames[i], words[i], pause, slot))
 }
 
 // Goes through the slots and answers the number of batches. A page's mark, 0 at first, becomes one more than its address slot.
@@ -132,18 +87,10 @@ fn run(frames: &[u8], words: &[u32], marks: &mut [u32]) -> u32
             left -= 1;
         } else {
             let frame = (slot % 16 / 2) as usize;
-            let mut i = next[frame];
-            let start = loop {
-                if i == n {
-                    break Start::Idle;
-                }
-                if may_start(marks[i], frames[i], words[i], pause, slot) {
-                    break Start::Page(i);
-                }
-                i += 1;
-            };
-            next[frame] = search_from(pause, next[frame], i);
-            if let Start::Page(page) = start {
+            let from = next[frame];
+            let start = first_from(from, marks, frames, words, pause, slot);
+            next[frame] = search_from(pause, from, start.unwrap_or(n));
+            if let Some(page) = start {
                 marks[page] = slot + 1;
                 left = words[page];
                 sent += 1;
@@ -165,7 +112,7 @@ fn place_exact(frames: &[u8], words: &[u32], out: &mut [u32]) -> u32
     ensures value { result ≡ batches (job_of frames.now words.now) }
     ensures out_after { out.new ≡ slots (job_of frames.now words.now) }
 {
-    clear(out);
+    out.fill(0);
     let batches = run(frames, words, out);
     unmark(out);
     batches

@@ -1,8 +1,9 @@
 -- `placement::place_exact` meets its contract, by what its three callees ensure. Assumes nothing.
-use mathlib.Core.Path.{sym, ap, ◌∙◌}
+use Rattle.std.proofs.Common.{rules}
+use mathlib.Core.Path.{◌≡◌, sym, ap, ◌∙◌}
 use mathlib.Core.List.{map}
 use Prim.Native.Nat.{ℕ, pred, ◌*◌}
-use lib.ListN.{replicate}
+use lib.ListN.{length, replicate}
 use Rattle.placement.specs.Placement.{state_at, job_of}
 use Rattle.placement.proofs.Placed.{slots_marks}
 use Rattle.placement.proofs.Sendable.{sendable_of}
@@ -10,9 +11,10 @@ use Rattle.placement.proofs.place_exact.Goals as goal
 
 pub run-batches-requires : goal.run-batches-requires
 run-batches-requires c =
+    let zeros : c.fill.new.self ≡ replicate (length c.args.out.now) 0 = search rules in
     record {
       words_value = c.requires.words_value;
-      marks_value = c.clear.ensures ∙ ap (λ (n : ℕ). replicate n 0) c.requires.out_len;
+      marks_value = zeros ∙ ap (λ (n : ℕ). replicate n 0) c.requires.out_len;
     }
 
 pub returns : goal.returns

@@ -3,25 +3,18 @@ use Prim.Native.Nat.{◌+◌}
 use native.Mathlib.Omega.{arith}
 use lib.Dec.{ltb}
 use borrow.Author.Tests.{lt-ltb, le-ltb}
-use borrow.Author.Count.{below_more}
 use lib.ListN.{length}
-use Rattle.placement.specs.declared.Start.TheVariants.{Page}
+use Rattle.std.specs.Prelude.{Some}
 use Rattle.placement.proofs.Sendable.{sendable_of}
 use Rattle.placement.proofs.Steps.{at_start, marks_length, open_slot, goes_on, all_over}
 use Rattle.placement.proofs.Skips.{skips_start}
-use Rattle.placement.proofs.Head.{Yields, After, framed, pages, slot_few, length_is, few_sent, asked_of, skipped, page_found, searched, after_message, after_page, after_nothing}
+use Rattle.placement.proofs.Head.{Yields, After, framed, pages, slot_few, length_is, few_sent, yields, searched, after_message, after_page, after_nothing}
 use Rattle.placement.proofs.run.Goals as goal
-use Rattle.placement.proofs.run.Goals.{In-Page, Joined-message, then-i-n, else-i-n+then-may_start, then-message, else-message+in-Page, else-message+in_default}
+use Rattle.placement.proofs.run.Goals.{In-Some, Joined-message, then-message, else-message+in-Some, else-message+in_default}
 
 -- in the arm that names a page, what was found of it
-page_at : (c : In-Page) → Yields c.loop-pause.invariant.1 (Page c.in-Page.page)
-page_at c =
-    let h = c.loop-pause.invariant.1 in
-    let found : Yields h c.if-i-n.start = elim c.if-i-n.branch [
-      | then-i-n v ↦ rw v.start-is (λ k l. c.loop-i.invariant.1 k (omega arith))
-      | else-i-n+then-may_start v ↦ rw v.start-is (page_found h c.loop-i.invariant.1 (omega arith) v.may_start.ensures v.if-may_start.true)
-    ] in
-    rw c.in-Page.is at found
+page_at : (c : In-Some) → Yields c.loop-pause.invariant.1 (Some c.in-Some.page)
+page_at c = rw c.in-Some.is at (yields c.loop-pause.invariant.1 _ c.first_from-start.ensures)
 
 -- where the arms meet, the slot is done
 stepped : (c : Joined-message) → After c.loop-pause.invariant.1 c.if-message.marks c.if-message.next c.if-message.left c.if-message.sent (ltb 0 c.loop-pause.left)
@@ -29,20 +22,14 @@ stepped c =
     let h = c.loop-pause.invariant.1 in
     elim c.if-message.branch [
       | then-message w ↦ rw (w.marks-is, w.next-is, w.left-is, w.sent-is, lt-ltb 0 c.loop-pause.left w.if-message.true) (after_message h w.if-message.true)
-      | else-message+in-Page w ↦
-          let found : Yields h w.if-i-n.start = elim w.if-i-n.branch [
-            | then-i-n v ↦ rw v.start-is (λ k l. w.loop-i.invariant.1 k (omega arith))
-            | else-i-n+then-may_start v ↦ rw v.start-is (page_found h w.loop-i.invariant.1 (omega arith) v.may_start.ensures v.if-may_start.true)
-          ] in
+      | else-message+in-Some w ↦
+          let found = yields h _ w.first_from-start.ensures in
           rw (w.marks-is, w.next-is, w.left-is, w.sent-is, le-ltb 0 c.loop-pause.left w.if-message.false)
-          (after_page h (omega arith) (rw w.in-Page.is at found) (searched h w.loop-i.invariant.1 w.loop-i.invariant.0 w.search_from.ensures))
+          (after_page h (omega arith) (rw w.in-Some.is at found) (searched h _ found (rw w.unwrap_or.ensures at w.search_from.ensures)))
       | else-message+in_default w ↦
-          let found : Yields h w.if-i-n.start = elim w.if-i-n.branch [
-            | then-i-n v ↦ rw v.start-is (λ k l. w.loop-i.invariant.1 k (omega arith))
-            | else-i-n+then-may_start v ↦ rw v.start-is (page_found h w.loop-i.invariant.1 (omega arith) v.may_start.ensures v.if-may_start.true)
-          ] in
+          let found = yields h _ w.first_from-start.ensures in
           rw (w.marks-is, w.next-is, w.left-is, w.sent-is, le-ltb 0 c.loop-pause.left w.if-message.false)
-          (after_nothing h (omega arith) (rw w.in_default.is at found) (searched h w.loop-i.invariant.1 w.loop-i.invariant.0 w.search_from.ensures))
+          (after_nothing h (omega arith) (rw w.in_default.is at found) (searched h _ found (rw w.unwrap_or.ensures at w.search_from.ensures)))
     ]
 
 marks_kept : (c : Joined-message) → length c.if-message.marks ≡ length c.args.marks.now
@@ -62,44 +49,20 @@ loop-pause-init c = (
   },
 )
 
-pub loop-i-init : goal.loop-i-init
-loop-i-init c = (c.loop-pause.invariant.1.skips.within _, skipped c.loop-pause.invariant.1)
-
-pub offset_bounds-marks-i : goal.offset_bounds-marks-i
-offset_bounds-marks-i c = omega (arith, pages c.loop-pause.invariant.1)
-
-pub bounds-marks-i : goal.bounds-marks-i
-bounds-marks-i c = omega (arith, length_is c.loop-pause.invariant.1)
-
-pub offset_bounds-words-i : goal.offset_bounds-words-i
-offset_bounds-words-i c = omega (arith, pages c.loop-pause.invariant.1)
-
-pub bounds-words-i : goal.bounds-words-i
-bounds-words-i c = omega (arith, c.loop-pause.invariant.1.sendable.paired)
-
-pub overflow_add-i : goal.overflow_add-i
-overflow_add-i c = omega (arith, pages c.loop-pause.invariant.1)
-
-pub loop-i-preserved : goal.loop-i-preserved
-loop-i-preserved c = (
-  omega arith,
-  below_more _ _ c.loop-i.invariant.1 (sym (asked_of c.loop-pause.invariant.1 c.loop-i.i) ∙ sym c.may_start.ensures ∙ c.if-may_start.false),
-)
-
 pub overflow_add-marks : goal.overflow_add-marks
 overflow_add-marks c = omega (arith, slot_few c.loop-pause.invariant.1)
 
 pub offset_bounds-marks-page : goal.offset_bounds-marks-page
-offset_bounds-marks-page c = omega (arith, (page_at (goal.at.offset_bounds-marks-page c).In-Page).0, pages c.loop-pause.invariant.1)
+offset_bounds-marks-page c = omega (arith, (page_at (goal.at.offset_bounds-marks-page c).In-Some).0, pages c.loop-pause.invariant.1)
 
 pub bounds-marks-page : goal.bounds-marks-page
-bounds-marks-page c = omega (arith, (page_at (goal.at.bounds-marks-page c).In-Page).0, length_is c.loop-pause.invariant.1)
+bounds-marks-page c = omega (arith, (page_at (goal.at.bounds-marks-page c).In-Some).0, length_is c.loop-pause.invariant.1)
 
 pub offset_bounds-words-page : goal.offset_bounds-words-page
-offset_bounds-words-page c = omega (arith, (page_at (goal.at.offset_bounds-words-page c).In-Page).0, pages c.loop-pause.invariant.1)
+offset_bounds-words-page c = omega (arith, (page_at (goal.at.offset_bounds-words-page c).In-Some).0, pages c.loop-pause.invariant.1)
 
 pub bounds-words-page : goal.bounds-words-page
-bounds-words-page c = omega (arith, (page_at (goal.at.bounds-words-page c).In-Page).0, c.loop-pause.invariant.1.sendable.paired)
+bounds-words-page c = omega (arith, (page_at (goal.at.bounds-words-page c).In-Some).0, c.loop-pause.invariant.1.sendable.paired)
 
 pub overflow_add-sent : goal.overflow_add-sent
 overflow_add-sent c = omega (arith, pages c.loop-pause.invariant.1, few_sent c.loop-pause.invariant.1)
