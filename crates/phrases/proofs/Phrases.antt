@@ -2,45 +2,25 @@
 use Prim.Native.Nat.{ℕ, suc, ◌+◌, ◌-◌, ◌*◌, ◌≤◌, ◌<◌}
 use mathlib.Core.Path.{◌≡◌, refl, sym, ap, ◌∙◌}
 use mathlib.Core.List.{List}
-use mathlib.Core.Bool.{Bool, true, false, cond, ◌&&◌, ◌||◌}
+use mathlib.Core.Bool.{Bool, true, false, cond, ◌||◌}
 use mathlib.Core.Logic.{⊎_elim}
 use native.Mathlib.Nat.{eq-or-lt_of_le}
 use native.Mathlib.Omega.{arith}
-use lib.ListN.{length, take, drop, length-drop}
+use lib.ListN.{length, get_or, take, drop, length-drop}
 use lib.Dec.{leb, ltb, eqb}
 use borrow.Author.Tests.{le-leb, lt-leb, lt-ltb, le-ltb, eq-eqb, ne_eqb, leb-true, eqb-true}
-use Rattle.base.specs.Hex.{between}
+use Rattle.std.specs.Prelude.{Option, Some, None}
+use Rattle.base.specs.Hex.{between, hex_of}
 use Rattle.base.specs.Lines.{Lines, line, split, line_at, line_count, line_start, line_end}
-use Rattle.base.proofs.Bools.{and_true, and_false}
+use Rattle.base.proofs.Bools.{either, and_true}
 use Rattle.base.proofs.SearchLaws.{le_or_lt}
 use Rattle.base.proofs.LinesLaws.{end_inside, none_left, cut, uncut, first, first_length, first_next}
 use Rattle.text.specs.Coding.{char_run}
 use Rattle.text.specs.declared.Coding.TheVariants.{Alphanumeric}
-use Rattle.phrases.specs.Book.{is_phrase, fault_from, is_two_digits, phrase_at, phrase_for, phrase_number}
+use Rattle.phrases.specs.Book.{is_phrase, fault_from, book_fault, first_fault, newline_from, is_decimal, is_two_digits, phrase_at, phrase_for, phrase_number}
 use Rattle.phrases.specs.declared.Phrase.{Phrase}
-use Rattle.phrases.specs.declared.Phrase.TheVariants.{At, Missing}
 
 -- ---- a phrase, by the characters at its front
-
-module _ (l : List ℕ) {run : ℕ} (q : run ≡ char_run Alphanumeric l) where
-  -- something else stands behind them
-  pub phrase_more : (2 * run ≡ length l → ⊥) → false ≡ is_phrase l
-  unfolding is_phrase
-  phrase_more h = rw (← q, ne_eqb (2 * run) (length l) h) (sym (and_false (between 1 240 run)))
-
-  -- nothing does
-  pub phrase_run : 2 * run ≡ length l → {t : Bool} → between 1 240 run ≡ t → t ≡ is_phrase l
-  unfolding is_phrase
-  phrase_run h e = rw (← q, e, eq-eqb (2 * run) (length l) h) (go _)
-    where
-      go : (t : Bool) → t ≡ t && true
-      go true = refl
-      go false = refl
-
--- one to 240 of them make the whole line
-pub phrase_whole : (l : List ℕ) → 1 ≤ char_run Alphanumeric l → char_run Alphanumeric l ≤ 240 → 2 * char_run Alphanumeric l ≡ length l → is_phrase l ≡ true
-unfolding is_phrase
-phrase_whole l low high e = simp (le-leb 1 _ low, le-leb _ 240 high, eq-eqb _ _ e)
 
 pub phrase_parts : (l : List ℕ) → is_phrase l ≡ true → (1 ≤ char_run Alphanumeric l) × (char_run Alphanumeric l ≤ 240) × (2 * char_run Alphanumeric l ≡ length l)
 unfolding is_phrase
@@ -48,6 +28,30 @@ phrase_parts l e =
     let p = and_true (between 1 240 (char_run Alphanumeric l)) _ e in
     let q = and_true (leb 1 (char_run Alphanumeric l)) _ p.0 in
     (leb-true 1 _ q.0, leb-true _ 240 q.1, eqb-true _ (length l) p.1)
+
+-- ---- an answer that may be none
+
+pub no_fault : (b : List ℕ) → book_fault b ≡ 0 → None ≡ first_fault b
+no_fault b e = rw e
+
+pub a_fault : (b : List ℕ) (k : ℕ) → book_fault b ≡ k + 1 → Some (k + 1) ≡ first_fault b
+a_fault b k e = rw (e, ne_eqb (k + 1) 0 (λ z. omega arith))
+
+pub newline_some : (b : List ℕ) (at : ℕ) {end : ℕ} → Some end ≡ newline_from b at → (end ≡ line_end b at) × (end < length b)
+newline_some b at {end} e =
+    ⊎_elim
+    (λ (m : length b ≤ line_end b at). let f : Some end ≡ None = e ∙ rw (le-ltb (line_end b at) (length b) m) in cc)
+    (λ (l : line_end b at < length b).
+    let f : Some end ≡ Some (line_end b at) = e ∙ rw (lt-ltb (line_end b at) (length b) l) in
+    let q : end ≡ line_end b at = cc in (q, omega arith))
+    (le_or_lt (length b) (line_end b at))
+
+pub newline_none : (b : List ℕ) (at : ℕ) → None ≡ newline_from b at → length b ≤ line_end b at
+newline_none b at e =
+    ⊎_elim
+    (λ (m : length b ≤ line_end b at). m)
+    (λ (l : line_end b at < length b). let f : None ≡ Some (line_end b at) = e ∙ rw (lt-ltb (line_end b at) (length b) l) in cc)
+    (le_or_lt (length b) (line_end b at))
 
 -- ---- what is left of a book from the byte `at` on, behind k phrases
 
@@ -86,18 +90,22 @@ module _ (b : List ℕ) (at k : ℕ) where
 
 -- ---- where a phrase stands
 
+-- bytes `start` to `start` + n
+abbrev pub stretch : ℕ → ℕ → Phrase
+stretch start n = record { start = start; length = n }
+
 -- a phrase of what is left from the byte `at` on, as one of the whole book
-abbrev pub moved : ℕ → Phrase → Phrase
-moved at (At start n) = At (at + start) n
-moved at Missing = Missing
+abbrev pub moved : ℕ → Option Phrase → Option Phrase
+moved at (Some f) = Some (stretch (at + f.start) f.length)
+moved at None = None
 
-pub moved_none : (x : Phrase) → x ≡ moved 0 x
-moved_none (At start n) = ap (λ (a : ℕ). At a n) (omega arith)
-moved_none Missing = refl
+pub moved_none : (x : Option Phrase) → x ≡ moved 0 x
+moved_none (Some f) = ap (λ (a : ℕ). Some (stretch a f.length)) (omega arith)
+moved_none None = refl
 
-moved_on : (at size end : ℕ) (x : Phrase) → at + size ≡ end → moved at (moved size x) ≡ moved end x
-moved_on at size end (At start n) e = ap (λ (a : ℕ). At a n) (omega arith)
-moved_on at size end Missing e = refl
+moved_on : (at size end : ℕ) (x : Option Phrase) → at + size ≡ end → moved at (moved size x) ≡ moved end x
+moved_on at size end (Some f) e = ap (λ (a : ℕ). Some (stretch a f.length)) (omega arith)
+moved_on at size end None e = refl
 
 less_suc : (p n : ℕ) → ltb (suc p) (suc n) ≡ ltb p n
 less_suc p n =
@@ -111,21 +119,21 @@ phrase_behind : (p : ℕ) (l : List ℕ) (ls : Lines) → phrase_at (suc p) (lin
 unfolding phrase_at line_count line_start line_at
 phrase_behind p l ls = rw (less_suc p (line_count ls)) (go (ltb p (line_count ls)) (line_start p ls) (length (line_at p ls)))
   where
-    go : (t : Bool) (a n : ℕ) → cond t (At (length l + 1 + a) n) Missing ≡ moved (length l + 1) (cond t (At a n) Missing)
+    go : (t : Bool) (a n : ℕ) → cond t (Some (stretch (length l + 1 + a) n)) None ≡ moved (length l + 1) (cond t (Some (stretch a n)) None)
     go true a n = refl
     go false a n = refl
 
 module _ (b : List ℕ) (at : ℕ) where
   -- no line is left
-  pub phrase_none : (p : ℕ) → at ≤ length b → length b ≤ line_end b at → moved at (phrase_at p (split (drop at b))) ≡ Missing
+  pub phrase_none : (p : ℕ) → at ≤ length b → length b ≤ line_end b at → moved at (phrase_at p (split (drop at b))) ≡ None
   unfolding phrase_at line_count
   phrase_none p h u = rw (uncut b at h u, le-ltb p 0 (omega arith))
 
-  pub phrase_here : {end : ℕ} → end ≡ line_end b at → end < length b → moved at (phrase_at 0 (split (drop at b))) ≡ At at (end - at)
+  pub phrase_here : {end : ℕ} → end ≡ line_end b at → end < length b → moved at (phrase_at 0 (split (drop at b))) ≡ Some (stretch at (end - at))
   unfolding phrase_at line_count line_start line_at
   phrase_here q h =
       rw (cut b at (rw q at h), q, first_length b at (rw q at h), lt-ltb 0 (suc (line_count (split (drop (line_end b at + 1) b)))) (omega arith))
-      (ap (λ (x : ℕ). At x (line_end b at - at)) (omega arith))
+      (ap (λ (x : ℕ). Some (stretch x (line_end b at - at))) (omega arith))
 
   pub phrase_next : (p : ℕ) {end : ℕ} → end ≡ line_end b at → end < length b
       → moved at (phrase_at (suc p) (split (drop at b))) ≡ moved (end + 1) (phrase_at p (split (drop (end + 1) b)))
@@ -140,10 +148,34 @@ pub two_digits : (ds : List ℕ) → is_two_digits ds ≡ true → length ds ≡
 unfolding is_two_digits
 two_digits ds e = eqb-true (length ds) 2 (and_true (eqb (length ds) 2) _ e).0
 
-pub unnamed : (b ds : List ℕ) → is_two_digits ds ≡ false → Missing ≡ phrase_for b ds
-unfolding phrase_for
-unnamed b ds e = rw e
+-- that they are two decimal ones, as facts
+pub record TwoDigits (ds : List ℕ) : Type 0 where
+  pub two : length ds ≡ 2
+  pub first : (48 ≤ get_or ds 0 0) × (get_or ds 0 0 ≤ 57)
+  pub second : (48 ≤ get_or ds 1 0) × (get_or ds 1 0 ≤ 57)
 
-pub named : (b ds : List ℕ) {number : ℕ} {x : Phrase} → is_two_digits ds ≡ true → number ≡ phrase_number ds → x ≡ phrase_at number (split b) → x ≡ phrase_for b ds
+decimal_is : (d : ℕ) → is_decimal d ≡ true → (48 ≤ d) × (d ≤ 57)
+decimal_is d e = let p = and_true (leb 48 d) (leb d 57) e in (leb-true 48 d p.0, leb-true d 57 p.1)
+
+two_digits_of : (ds : List ℕ) → is_two_digits ds ≡ true → TwoDigits ds
+unfolding is_two_digits
+two_digits_of ds e =
+    let p = and_true (eqb (length ds) 2) _ e in
+    let q = and_true (is_decimal (get_or ds 0 0)) (is_decimal (get_or ds 1 0)) p.1 in
+    record { two = eqb-true (length ds) 2 p.0; first = decimal_is _ q.0; second = decimal_is _ q.1 }
+
+of_two_digits : (ds : List ℕ) → TwoDigits ds → is_two_digits ds ≡ true
+unfolding is_two_digits
+of_two_digits ds t =
+    simp (eq-eqb (length ds) 2 t.two, le-leb 48 _ t.first.0, le-leb _ 57 t.first.1, le-leb 48 _ t.second.0, le-leb _ 57 t.second.1)
+
+pub unnamed : (b ds : List ℕ) → (TwoDigits ds → ⊥) → None ≡ phrase_for b ds
 unfolding phrase_for
-named b ds e q f = rw (e, ← q) f
+unnamed b ds h = ⊎_elim (λ e. absurd (h (two_digits_of ds e))) (λ e. rw e) (either (is_two_digits ds))
+
+pub named : (b ds : List ℕ) {number : ℕ} {x : Option Phrase} → TwoDigits ds → number ≡ (get_or ds 0 0 - 48) * 10 + (get_or ds 1 0 - 48) → x ≡ phrase_at number (split b)
+    → x ≡ phrase_for b ds
+unfolding phrase_for phrase_number hex_of
+named b ds t q f =
+    let n : phrase_number ds ≡ (get_or ds 0 0 - 48) * 10 + (get_or ds 1 0 - 48) = simp (le-leb 48 _ t.first.0, le-leb _ 57 t.first.1, le-leb 48 _ t.second.0, le-leb _ 57 t.second.1) in
+    rw (of_two_digits ds t, n, ← q) f

@@ -1,11 +1,10 @@
 -- A phrase book (request R-6): up to 100 lines, each the pairs of a kind 5 text and a newline. An empty one is no book.
-use Rattle.std.specs.Prelude.{ℕ, ◌+◌, ◌*◌, List, Bool, cond, not, ◌&&◌, ◌||◌, length, get_or, leb, ltb, eqb}
+use Rattle.std.specs.Prelude.{ℕ, ◌+◌, ◌*◌, List, Bool, cond, not, ◌&&◌, ◌||◌, Option, Some, None, length, get_or, leb, ltb, eqb}
 use Rattle.base.specs.Hex.{between, hex_of}
-use Rattle.base.specs.Lines.{Lines, behind, line, split, line_at, line_count, line_start}
+use Rattle.base.specs.Lines.{Lines, behind, line, split, line_at, line_count, line_start, line_end}
 use Rattle.text.specs.Coding.{char_run}
 use Rattle.text.specs.declared.Coding.TheVariants.{Alphanumeric}
 use Rattle.phrases.specs.declared.Phrase.{Phrase}
-use Rattle.phrases.specs.declared.Phrase.TheVariants.{At, Missing}
 
 -- ---- the form of a book: number 19 where it has another
 
@@ -26,6 +25,14 @@ fault_from k (line l ls) = cond (leb 100 k || not (is_phrase l)) (k + 1) (fault_
 unfoldable pub book_fault : List ℕ → ℕ
 book_fault b = fault_from 0 (split b)
 
+-- the same as an answer: the place, where there is one
+abbrev pub first_fault : List ℕ → Option ℕ
+first_fault b = cond (eqb (book_fault b) 0) None (Some (book_fault b))
+
+-- the newline that ends the line at byte `at`, if it has one
+abbrev pub newline_from : List ℕ → ℕ → Option ℕ
+newline_from b at = cond (ltb (line_end b at) (length b)) (Some (line_end b at)) None
+
 -- ---- the phrase that digits name
 
 -- '0' to '9'
@@ -41,12 +48,12 @@ unfoldable pub phrase_number : List ℕ → ℕ
 phrase_number ds = hex_of (get_or ds 0 0) * 10 + hex_of (get_or ds 1 0)
 
 -- where phrase p of these lines stands
-unfoldable pub phrase_at : ℕ → Lines → Phrase
-phrase_at p ls = cond (ltb p (line_count ls)) (At (line_start p ls) (length (line_at p ls))) Missing
+unfoldable pub phrase_at : ℕ → Lines → Option Phrase
+phrase_at p ls = cond (ltb p (line_count ls)) (Some (record { start = line_start p ls; length = length (line_at p ls) })) None
 
 -- where the phrase of a book stands that digits name; none where they are not the two-digit number of one (number 18)
-unfoldable pub phrase_for : List ℕ → List ℕ → Phrase
-phrase_for b ds = cond (is_two_digits ds) (phrase_at (phrase_number ds) (split b)) Missing
+unfoldable pub phrase_for : List ℕ → List ℕ → Option Phrase
+phrase_for b ds = cond (is_two_digits ds) (phrase_at (phrase_number ds) (split b)) None
 
 -- its digits
 abbrev pub phrase_of : List ℕ → List ℕ → List ℕ

@@ -1,54 +1,56 @@
-use Prim.Native.Nat.{◌≤◌}
-use mathlib.Core.Path.{refl, sym, ◌∙◌}
+use Prim.Native.Nat.{◌≤◌, ◌<◌}
+use mathlib.Core.Path.{◌≡◌, refl, sym, ◌∙◌}
 use native.Mathlib.Omega.{arith}
+use lib.ListN.{length}
+use Rattle.base.specs.Lines.{line_end}
 use Rattle.base.proofs.LinesLaws.{end_after}
 use Rattle.phrases.specs.Book.{book_fault}
-use Rattle.phrases.proofs.Phrases.{fault_none, fault_many, fault_unended, fault_line, fault_next}
-use Rattle.phrases.proofs.book_fault.Goals.{After-line_end-end}
+use Rattle.phrases.proofs.Phrases.{no_fault, a_fault, newline_some, newline_none, fault_none, fault_many, fault_unended, fault_line, fault_next}
+use Rattle.phrases.proofs.book_fault.Goals.{In-Some, in_default-via-in-Some+else-is_phrase, in_default-via-in_default}
 use Rattle.phrases.proofs.book_fault.Goals as goal
 
 -- where the line ends
-ended : (c : After-line_end-end) → c.loop-at.at ≤ c.line_end-end.result
-ended c = rw c.line_end-end.ensures (end_after c.args.book.now c.loop-at.at)
+ended : (c : In-Some) → (c.in-Some.end ≡ line_end c.args.book.now c.loop-k.at) × (c.in-Some.end < length c.args.book.now)
+ended c = newline_some _ _ (sym c.in-Some.is ∙ c.newline.ensures)
 
-pub loop-at-init : goal.loop-at-init
+after : (c : In-Some) → c.loop-k.at ≤ c.in-Some.end
+after c = omega (arith, ended c, end_after c.args.book.now c.loop-k.at)
+
+pub loop-k-init : goal.loop-k-init
 unfolding book_fault
-loop-at-init c = (omega arith, omega arith, refl)
+loop-k-init c = (omega arith, refl)
 
-pub returns-then-k-ge100 : goal.returns-then-k-ge100
-returns-then-k-ge100 c =
-    let b = c.args.book.now in
-    sym (c.loop-at.invariant.2 ∙ fault_many b c.loop-at.at c.loop-at.k (omega arith) (omega arith))
-
-pub returns-then-book-end : goal.returns-then-book-end
-returns-then-book-end c =
-    let b = c.args.book.now in
-    let q = c.line_end-end.ensures in
-    sym (c.loop-at.invariant.2 ∙ fault_unended b c.loop-at.at c.loop-at.k (omega arith) (omega arith))
+pub returns-then-book-at : goal.returns-then-book-at
+returns-then-book-at c = no_fault _ (c.loop-k.invariant.1 ∙ fault_none _ c.loop-k.at c.loop-k.k c.if-book-at.true)
 
 pub slice_bounds-is_phrase-count : goal.slice_bounds-is_phrase-count
-slice_bounds-is_phrase-count c = omega (arith, ended (goal.at.slice_bounds-is_phrase-count c).After-line_end-end)
+slice_bounds-is_phrase-count c = after (goal.at.slice_bounds-is_phrase-count c).In-Some
 
 pub slice_bounds-is_phrase-start : goal.slice_bounds-is_phrase-start
-slice_bounds-is_phrase-start c = omega (arith, ended (goal.at.slice_bounds-is_phrase-start c).After-line_end-end)
+slice_bounds-is_phrase-start c = omega (arith, after (goal.at.slice_bounds-is_phrase-start c).In-Some)
 
-pub returns-then-not-is_phrase : goal.returns-then-not-is_phrase
-returns-then-not-is_phrase c =
+pub returns-in_default : goal.returns-in_default
+returns-in_default c =
     let b = c.args.book.now in
-    sym (c.loop-at.invariant.2 ∙ fault_line b c.loop-at.at c.loop-at.k c.line_end-end.ensures (omega arith)
-    (sym c.is_phrase.ensures ∙ c.if-not-is_phrase.true))
+    elim c.in_default.branch [
+      | in_default-via-in-Some+else-is_phrase w ↦
+          let end = newline_some b c.loop-k.at (sym w.in-Some.is ∙ c.newline.ensures) in
+          a_fault b c.loop-k.k (c.loop-k.invariant.1 ∙ fault_line b c.loop-k.at c.loop-k.k end.0 end.1 (sym w.is_phrase.ensures ∙ w.if-is_phrase.false))
+      | in_default-via-in_default w ↦
+          let end = newline_none b c.loop-k.at (sym w.in_default.is ∙ c.newline.ensures) in
+          a_fault b c.loop-k.k (c.loop-k.invariant.1 ∙ fault_unended b c.loop-k.at c.loop-k.k (omega arith) end)
+    ]
 
-pub loop-at-smaller : goal.loop-at-smaller
-loop-at-smaller c = omega (arith, ended (goal.at.loop-at-smaller c).After-line_end-end)
-
-pub loop-at-preserved : goal.loop-at-preserved
-loop-at-preserved c =
-    let b = c.args.book.now in (
+pub loop-k-preserved : goal.loop-k-preserved
+loop-k-preserved c =
+    let b = c.args.book.now in
+    let end = ended (goal.at.loop-k-preserved c).In-Some in (
       omega arith,
-      omega arith,
-      c.loop-at.invariant.2 ∙ fault_next b c.loop-at.at c.loop-at.k (omega arith) c.line_end-end.ensures (omega arith)
-          (sym c.is_phrase.ensures ∙ c.if-not-is_phrase.false),
+      c.loop-k.invariant.1 ∙ fault_next b c.loop-k.at c.loop-k.k (omega arith) end.0 end.1 (sym c.is_phrase.ensures ∙ c.if-is_phrase.true),
     )
 
-pub returns : goal.returns
-returns c = sym (c.loop-at.invariant.2 ∙ fault_none c.args.book.now c.loop-at.at c.loop-at.k c.loop-at-test.false)
+pub returns-then-at-book : goal.returns-then-at-book
+returns-then-at-book c = a_fault _ 100 (c.loop-k.invariant.1 ∙ fault_many _ c.loop-k.at c.loop-k.k (omega arith) (omega arith) ∙ omega arith)
+
+pub returns-else-at-book : goal.returns-else-at-book
+returns-else-at-book c = no_fault _ (c.loop-k.invariant.1 ∙ fault_none _ c.loop-k.at c.loop-k.k c.if-at-book.false)

@@ -1,5 +1,6 @@
--- `phrases::phrase_at` meets its contract. The invariant: the phrase is the k-th of what is left. Assumes nothing.
-use Prim.Native.Nat.{◌≤◌}
+-- `phrases::phrase_at` meets its contract. The invariant: the phrase is that of what is left, by as many lines as are still to pass.
+-- Assumes nothing.
+use Prim.Native.Nat.{◌≤◌, ◌-◌}
 use mathlib.Core.Path.{◌≡◌}
 use lib.ListN.{length, drop}
 use Rattle.base.specs.Lines.{split}
@@ -7,8 +8,5 @@ use Rattle.phrases.specs.Book.{phrase_at}
 use Rattle.phrases.proofs.Phrases.{moved}
 use Rattle.phrases.proofs.phrase_at.Given as goal
 
-abbrev pub invariant-loop-k : goal.invariant-loop-k
-invariant-loop-k l = (l.at ≤ length l.book) × (phrase_at l.p (split l.book) ≡ moved l.at (phrase_at l.k (split (drop l.at l.book))))
-
-abbrev pub decreases-loop-k : goal.decreases-loop-k
-decreases-loop-k l = l.k
+abbrev pub invariant-loop : goal.invariant-loop
+invariant-loop l = (l.at ≤ length l.book) × (phrase_at l.p (split l.book) ≡ moved l.at (phrase_at (l.p - l.counter) (split (drop l.at l.book))))
