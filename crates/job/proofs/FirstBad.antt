@@ -13,7 +13,7 @@ use Rattle.base.proofs.LeadingLaws.{leading_each, leading_first}
 use Rattle.text.specs.Coding.{char_ok, ends_in_space}
 use Rattle.phrases.specs.Book.{has_book, book_fault, phrase_for}
 use Rattle.phrases.specs.declared.Phrase.{Phrase}
-use Rattle.phrases.specs.declared.Phrase.TheVariants.{At, Missing}
+use Rattle.std.specs.Prelude.{Option, Some, None}
 use Rattle.job.specs.Line.{well_formed, is_reserved, longest_of, coding_of, is_data, good_run, tone_page_of, text_page_of, data_page_of, phrase_page_of, kind_page_of, page_of, line_of, identity_of, kind_of, text_digits, text_of, page_from}
 use Rattle.job.specs.Job.{after, judge, job_of}
 use Rattle.job.specs.Refusal.{number_of, position_of, job_number, job_place, job_position}
@@ -83,9 +83,9 @@ kind_bad b page digits = by_kind (between 0 3 page.kind) (between 4 5 page.kind)
         (other page.kind (bytes_of digits) (eqb (length digits) 0) TextMissing _ (λ n. omega arith)
         (other page.kind (bytes_of digits) (ltb 84 (length digits / 5)) TextTooLong _ (λ n. omega arith) (λ e. absurd (omega arith))))
 
-    phrase : (f : Phrase) → Bad6 page.kind (bytes_of digits) (phrase_page_of page f)
-    phrase (At start count) e = absurd (omega arith)
-    phrase Missing e = absurd (omega arith)
+    phrase : (f : Option Phrase) → Bad6 page.kind (bytes_of digits) (phrase_page_of page f)
+    phrase (Some f) e = absurd (omega arith)
+    phrase None e = absurd (omega arith)
 
     by_kind : (t u d v : Bool)
         → Bad6 page.kind (bytes_of digits) (cond t (tone_page_of page digits) (cond u (text_page_of page (bytes_of digits)) (cond d (data_page_of page digits) (cond v (phrase_page_of page (phrase_for b digits)) (Faulty UnknownKind)))))

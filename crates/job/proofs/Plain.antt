@@ -112,7 +112,7 @@ fine_phrase b at l {p} ok t n =
     let text = (phrase_text ds).text f.phrase in
     let x = phrased_is l ds (view l (head_long l head)) head text.0 in
     let same = n.same in
-    let is : record { identity = identity_of l; kind = kind_of l; start = n.start; length = n.count } ≡ p = cc in
+    let is : record { identity = identity_of l; kind = kind_of l; start = n.place.start; length = n.place.length } ≡ p = cc in
     rw (← is)
     (record {
       sounds = sound (phrased l ds) x.formed (rw x.identity t.in_range) (rw x.identity t.free) (rw (x.kind, x.digits) (phrase_kind ds text.1));

@@ -16,7 +16,7 @@ use Rattle.text.specs.Coding.{ends_in_space, groups_of}
 use Rattle.text.specs.declared.Coding.TheVariants.{Numeric, Alphanumeric}
 use Rattle.phrases.specs.Book.{has_book, phrase_for}
 use Rattle.phrases.specs.declared.Phrase.{Phrase}
-use Rattle.phrases.specs.declared.Phrase.TheVariants.{At, Missing}
+use Rattle.std.specs.Prelude.{Option, Some, None}
 use Rattle.job.specs.Line.{well_formed, is_reserved, is_data, longest_of, coding_of, function_of, good_run, tone_page_of, text_page_of, data_page_of, phrase_page_of, kind_page_of, page_of, line_of, identity_of, kind_of, text_digits, page_from}
 use Rattle.job.specs.Message.{count_from}
 use Rattle.job.specs.Accepted.{TextSound, DataSound, Sound}
@@ -88,14 +88,13 @@ pub record KindSound (kind : ℕ) (digits : List ℕ) : Type 0 where
 -- of kind 9: where the phrase stands that the digits name
 pub record Named (b : List ℕ) (page : Page) (digits : List ℕ) (p : Page) : Type 0 where
   pub kind : page.kind ≡ 9
-  pub start : ℕ
-  pub count : ℕ
-  pub found : phrase_for b digits ≡ At start count
-  pub same : phrase_page_of page (At start count) ≡ Good p
+  pub place : Phrase
+  pub found : phrase_for b digits ≡ Some place
+  pub same : phrase_page_of page (Some place) ≡ Good p
 
-named : (b : List ℕ) (page : Page) (digits : List ℕ) (f : Phrase) {p : Page} → page.kind ≡ 9 → phrase_for b digits ≡ f → phrase_page_of page f ≡ Good p → Named b page digits p
-named b page digits (At start count) k e g = record { kind = k; start = start; count = count; found = e; same = g }
-named b page digits Missing k e g = let z : ◌≡◌ {A = ℕ} 0 1 = cc in absurd (omega arith)
+named : (b : List ℕ) (page : Page) (digits : List ℕ) (f : Option Phrase) {p : Page} → page.kind ≡ 9 → phrase_for b digits ≡ f → phrase_page_of page f ≡ Good p → Named b page digits p
+named b page digits (Some f) k e g = record { kind = k; place = f; found = e; same = g }
+named b page digits None k e g = let z : ◌≡◌ {A = ℕ} 0 1 = cc in absurd (omega arith)
 
 -- a good page is that of its line, or it has a phrase
 abbrev pub KindGood : List ℕ → Page → List ℕ → Page → Type 0

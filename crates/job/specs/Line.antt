@@ -1,7 +1,7 @@
 -- What one page line says, without its newline: a page, or its first refusal in the order of the table (document 01, "Page lines"),
 -- where 12, 13 and 14 have 5's rank, between 4 and 6 (request R-1), 25 comes between 4 and them (request R-11), and 18 has their rank
 -- (request R-6).
-use Rattle.std.specs.Prelude.{ℕ, ◌+◌, ◌-◌, ◌/◌, ◌%◌, ◌≡◌, List, Bool, false, cond, not, ◌&&◌, ◌||◌, length, get_or, take, drop, leb, ltb, eqb}
+use Rattle.std.specs.Prelude.{ℕ, ◌+◌, ◌-◌, ◌/◌, ◌%◌, ◌≡◌, List, Bool, false, cond, not, ◌&&◌, ◌||◌, Option, Some, None, length, get_or, take, drop, leb, ltb, eqb}
 use Rattle.base.specs.Hex.{between, is_hex, hex_of, hex_number, bytes_of}
 use Rattle.base.specs.Leading.{leading}
 use Rattle.text.specs.Coding.{char_ok, ends_in_space}
@@ -9,7 +9,6 @@ use Rattle.text.specs.declared.Coding.{Coding}
 use Rattle.text.specs.declared.Coding.TheVariants.{Numeric, Alphanumeric}
 use Rattle.phrases.specs.Book.{has_book, phrase_for}
 use Rattle.phrases.specs.declared.Phrase.{Phrase}
-use Rattle.phrases.specs.declared.Phrase.TheVariants.{At, Missing}
 use Rattle.job.specs.declared.Refusal.TheVariants.{Malformed, IdentityRange, IdentityReserved, UnknownKind, PartialGroup, ToneWithText, TextMissing, TextTooLong, NoPhrase, Character, TrailingSpace}
 use Rattle.job.specs.declared.Page.{Page}
 use Rattle.job.specs.declared.LineAnswer.{LineAnswer}
@@ -125,9 +124,9 @@ data_page_of page digits =
     (Good page)))
 
 -- kind 9: the phrase of the book that the digits name is the page's text; where they name none, number 18
-abbrev pub phrase_page_of : Page → Phrase → LineAnswer
-phrase_page_of page (At start count) = Good (record { identity = page.identity; kind = page.kind; start = start; length = count })
-phrase_page_of page Missing = Faulty NoPhrase
+abbrev pub phrase_page_of : Page → Option Phrase → LineAnswer
+phrase_page_of page (Some f) = Good (record { identity = page.identity; kind = page.kind; start = f.start; length = f.length })
+phrase_page_of page None = Faulty NoPhrase
 
 -- by the kind, which is 0 to 7, or 9 where there is a book (number 4)
 unfoldable pub kind_page_of : List ℕ → Page → List ℕ → LineAnswer

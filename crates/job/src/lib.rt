@@ -19,7 +19,6 @@ ghost use Rattle.job.specs.Job.{judge, table_of, answer_with, reading_of};
 ghost use Rattle.job.specs.declared.Refusal.TheVariants.{Malformed, UnknownKind};
 ghost use Rattle.job.specs.declared.LineAnswer.TheVariants.{Faulty};
 
-use phrases::Phrase;
 use text::Coding;
 
 // Why a job is declined: a line's refusals in the order of their rank, then the two of the whole job, then its book's.
@@ -329,12 +328,11 @@ fn judge_phrase(page: Page, digits: &[u8], book: &[u8]) -> LineAnswer
         return LineAnswer::Faulty(Refusal::UnknownKind);
     }
     match phrases::find_phrase(book, digits) {
-        Phrase::Missing => LineAnswer::Faulty(Refusal::NoPhrase),
-        Phrase::At { start, length } => LineAnswer::Good(Page {
-            identity: page.identity,
-            kind: page.kind,
-            start: start,
-            length: length,
+        None => LineAnswer::Faulty(Refusal::NoPhrase),
+        Some(phrase) => LineAnswer::Good(Page {
+            start: phrase.start,
+            length: phrase.length,
+            ..page
         }),
     }
 }
@@ -497,8 +495,7 @@ fn read_lines(job: &[u8], book: &[u8]) -> Pages
 pub fn read_job(job: &[u8], book: &[u8]) -> Pages
     ensures { result ≡ reading_of (with_book job.now book.now) }
 {
-    let fault = phrases::book_fault(book);
-    if 0 < fault {
+    if let Some(fault) = phrases::book_fault(book) {
         return refused(Refusal::BadBook, fault);
     }
     if job.len() == 0 {

@@ -37,6 +37,23 @@ no_fault b e = rw e
 pub a_fault : (b : List ℕ) (k : ℕ) → book_fault b ≡ k + 1 → Some (k + 1) ≡ first_fault b
 a_fault b k e = rw (e, ne_eqb (k + 1) 0 (λ z. omega arith))
 
+-- and what such an answer says
+pub sound_of : (b : List ℕ) → None ≡ first_fault b → book_fault b ≡ 0
+sound_of b e =
+    ⊎_elim
+    (λ (l : book_fault b ≤ 0). omega arith)
+    (λ (l : 0 < book_fault b). let f : None ≡ Some (book_fault b) = e ∙ rw (ne_eqb (book_fault b) 0 (λ z. omega arith)) in cc)
+    (le_or_lt (book_fault b) 0)
+
+pub fault_of : (b : List ℕ) {k : ℕ} → Some k ≡ first_fault b → (book_fault b ≡ k) × (0 < k)
+fault_of b {k} e =
+    ⊎_elim
+    (λ (l : book_fault b ≤ 0). let f : Some k ≡ None = e ∙ rw (eq-eqb (book_fault b) 0 (omega arith)) in cc)
+    (λ (l : 0 < book_fault b).
+    let f : Some k ≡ Some (book_fault b) = e ∙ rw (ne_eqb (book_fault b) 0 (λ z. omega arith)) in
+    let q : book_fault b ≡ k = cc in (q, omega arith))
+    (le_or_lt (book_fault b) 0)
+
 pub newline_some : (b : List ℕ) (at : ℕ) {end : ℕ} → Some end ≡ newline_from b at → (end ≡ line_end b at) × (end < length b)
 newline_some b at {end} e =
     ⊎_elim

@@ -6,12 +6,12 @@ use Rattle.job.proofs.judge_phrase.Goals as goal
 pub returns-then-book-eq0 : goal.returns-then-book-eq0
 returns-then-book-eq0 c = simp (eq-eqb (length c.args.book.now) 0 c.if-book-eq0.true)
 
-pub returns-in-Missing : goal.returns-in-Missing
-returns-in-Missing c =
+pub returns-in-None : goal.returns-in-None
+returns-in-None c =
     let a = c.args in
-    rw (ne_eqb (length a.book.now) 0 c.if-book-eq0.false, ← c.find_phrase.ensures, c.in-Missing.is)
+    rw (ne_eqb (length a.book.now) 0 c.if-book-eq0.false, ← c.find_phrase.ensures, c.in-None.is)
 
-pub returns-in-At : goal.returns-in-At
-returns-in-At c =
+pub returns-in-Some : goal.returns-in-Some
+returns-in-Some c =
     let a = c.args in
-    rw (ne_eqb (length a.book.now) 0 c.if-book-eq0.false, ← c.find_phrase.ensures, c.in-At.is)
+    rw (ne_eqb (length a.book.now) 0 c.if-book-eq0.false, ← c.find_phrase.ensures, c.in-Some.is)

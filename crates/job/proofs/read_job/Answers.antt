@@ -1,26 +1,30 @@
 -- `job::read_job` meets its contract. Assumes nothing.
-use mathlib.Core.Path.{◌∙◌}
+use mathlib.Core.Path.{◌≡◌, sym, ◌∙◌}
 use native.Mathlib.Omega.{arith}
 use borrow.Author.Tests.{eq-eqb, ne_eqb, lt-ltb, le-ltb}
 use lib.ListN.{length}
 use Rattle.phrases.specs.Book.{book_fault}
+use Rattle.phrases.proofs.Phrases.{sound_of, fault_of}
 use Rattle.job.specs.Job.{job_of, answer_with, reading_of}
 use Rattle.job.proofs.read_job.Goals as goal
 
-pub returns-then-fault-gt0 : goal.returns-then-fault-gt0
+pub returns-in-Some : goal.returns-in-Some
 unfolding reading_of answer_with job_of
-returns-then-fault-gt0 c =
+returns-in-Some c =
     let b = c.args.book.now in
-    rw (c.refused.ensures, c.book_fault-fault.ensures) (simp (lt-ltb 0 (book_fault b) (omega (arith, c.book_fault-fault.ensures))))
+    let f = fault_of b (sym c.in-Some.is ∙ c.book_fault.ensures) in
+    rw (c.refused.ensures, ← f.0) (simp (lt-ltb 0 (book_fault b) (omega arith)))
 
 pub returns-then-job-eq0 : goal.returns-then-job-eq0
 unfolding reading_of answer_with job_of
 returns-then-job-eq0 c =
     let a = c.args in
-    c.refused-then-job-eq0.ensures ∙ simp (le-ltb 0 (book_fault a.book.now) (omega (arith, c.book_fault-fault.ensures)), eq-eqb (length a.job.now) 0 c.if-job-eq0.true)
+    let good : book_fault a.book.now ≡ 0 = sound_of a.book.now (sym c.in_default.is ∙ c.book_fault.ensures) in
+    c.refused-then-job-eq0.ensures ∙ simp (le-ltb 0 (book_fault a.book.now) (omega arith), eq-eqb (length a.job.now) 0 c.if-job-eq0.true)
 
 pub returns : goal.returns
 unfolding reading_of job_of
 returns c =
     let a = c.args in
-    c.read_lines.ensures ∙ simp (le-ltb 0 (book_fault a.book.now) (omega (arith, c.book_fault-fault.ensures)), ne_eqb (length a.job.now) 0 c.if-job-eq0.false)
+    let good : book_fault a.book.now ≡ 0 = sound_of a.book.now (sym c.in_default.is ∙ c.book_fault.ensures) in
+    c.read_lines.ensures ∙ simp (le-ltb 0 (book_fault a.book.now) (omega arith), ne_eqb (length a.job.now) 0 c.if-job-eq0.false)
