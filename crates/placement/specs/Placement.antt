@@ -2,7 +2,7 @@
 -- without the sync words. Each has a content and a state before it, by recursion on its number. The number of batches is the least with
 -- which the transmission can end, looked for up to demand 3's bound; the theorem `Placed` (specs/Promise.antt) says that one is always
 -- found.
-use Rattle.std.specs.Prelude.{Bool, true, false, not, cond, ◌&&◌, ◌||◌, List, [], ◌∷◌, ℕ, zero, suc, pred, ◌+◌, ◌-◌, ◌*◌, ◌/◌, ◌%◌, ◌<◌, get_or, set, replicate, length, eqb, leb, ltb}
+use Rattle.std.specs.Prelude.{Bool, true, false, not, cond, ◌&&◌, ◌||◌, List, [], ◌∷◌, Option, Some, None, ℕ, zero, suc, pred, ◌+◌, ◌-◌, ◌*◌, ◌/◌, ◌%◌, ◌<◌, get_or, set, replicate, length, eqb, leb, ltb}
 use Rattle.base.specs.Lists.{tab}
 use Rattle.base.specs.Search.{least, sum}
 
@@ -155,9 +155,9 @@ slots job = tab (slot_of job) job.pages
 abbrev pub is_placed : List ℕ → List ℕ → ℕ → Bool
 is_placed frames words room = is_sendable frames words && leb (length frames) room
 
--- the answer: the number of batches, or 0, which is no placement's, where the job isn't placed
-abbrev pub batches_in : List ℕ → List ℕ → ℕ → ℕ
-batches_in frames words room = cond (is_placed frames words room) (batches (job_of frames words)) 0
+-- the answer: the number of batches, or nothing where the job isn't placed
+abbrev pub batches_in : List ℕ → List ℕ → ℕ → Option ℕ
+batches_in frames words room = cond (is_placed frames words room) (Some (batches (job_of frames words))) None
 
 -- what is written over the slice's front: the reported slots, or nothing where the job isn't placed
 abbrev pub slots_in : List ℕ → List ℕ → ℕ → List ℕ

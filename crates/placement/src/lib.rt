@@ -120,18 +120,18 @@ fn place_exact(frames: &[u8], words: &[u32], out: &mut [u32]) -> u32
 
 // Places a job, given by its pages' frames and numbers of message codewords: the slots of the addresses go to the front of `out`, in
 // the job's order, and the answer is the number of batches, which is 1 or more. Where the job cannot be sent, or `out` has fewer places
-// than the job has pages, the answer is 0 and nothing is written.
+// than the job has pages, there is no answer and nothing is written.
 #[tactic(auto, using(crate::proofs::Placing::no_room, crate::proofs::Placing::unsendable, crate::proofs::Placing::placed_in))]
-pub fn place(frames: &[u8], words: &[u32], out: &mut [u32]) -> u32
+pub fn place(frames: &[u8], words: &[u32], out: &mut [u32]) -> Option<u32>
     ensures value { result ≡ batches_in frames.now words.now (length out.old) }
     ensures out_after { out.new ≡ over out.old (slots_in frames.now words.now (length out.old)) }
 {
     let pages = frames.len();
     if out.len() < pages {
-        return 0;
+        return None;
     }
     if !is_sendable(frames, words) {
-        return 0;
+        return None;
     }
-    place_exact(frames, words, &mut out[..pages])
+    Some(place_exact(frames, words, &mut out[..pages]))
 }
