@@ -1,6 +1,6 @@
 -- The correction theorem, proved. Assumes nothing.
 use mathlib.Core.Path.{◌≡◌, refl, ap}
-use mathlib.Core.Option.{Option, none, some}
+use Rattle.std.specs.Prelude.{Option, None, Some}
 use Prim.Native.Nat.{ℕ}
 use native.Mathlib.Omega.{arith}
 use Rattle.codeword.specs.Answer.{answer, number_of, changed_of}
@@ -14,9 +14,9 @@ use Rattle.codeword.proofs.ThreeFlips.{three_far}
 use Rattle.codeword.proofs.Unique.{unique}
 
 -- number 20 says that there is no corrected word
-number_none : (w : ℕ) (o : Option ℕ) → number_of (answer w o) ≡ 20 → o ≡ none
-number_none w none e = refl
-number_none w (some c) e = absurd (omega arith)
+number_none : (w : ℕ) (o : Option ℕ) → number_of (answer w o) ≡ 20 → o ≡ None
+number_none w None e = refl
+number_none w (Some c) e = absurd (omega arith)
 
 pub correction_theorem : CorrectionTheorem
 correction_theorem =

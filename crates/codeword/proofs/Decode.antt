@@ -1,6 +1,6 @@
 -- A word with the bits flipped that explain its syndrome is the nearest codeword. Assumes nothing.
 use mathlib.Core.Path.{◌≡◌, sym, ap, ◌∙◌, subst}
-use mathlib.Core.Option.{none, some}
+use Rattle.std.specs.Prelude.{None, Some}
 use Prim.Native.Nat.{ℕ, ◌^◌, ◌≤◌, ◌<◌}
 use lib.Bits.{bit_xor, xor_lt, xor_self}
 use Rattle.codeword.specs.Code.{weight}
@@ -14,7 +14,7 @@ use Rattle.codeword.proofs.XorLaws.{xor_cancel}
 
 module _ (w : ℕ) (hw : w < 2 ^ 32) where
   -- at most two bits flipped that explain the syndrome give the nearest codeword
-  pub corrected : (e : ℕ) → Explains (syndrome w) e → nearest w ≡ some (bit_xor w e)
+  pub corrected : (e : ℕ) → Explains (syndrome w) e → nearest w ≡ Some (bit_xor w e)
   unfolding distance
   corrected e x =
       let hc : bit_xor w e < 2 ^ 32 = xor_lt 32 w e hw x.fits in
@@ -29,7 +29,7 @@ module _ (w : ℕ) (hw : w < 2 ^ 32) where
       })
 
   -- where nothing explains it there is none
-  pub refused : ((e : ℕ) → Explains (syndrome w) e → ⊥) → nearest w ≡ none
+  pub refused : ((e : ℕ) → Explains (syndrome w) e → ⊥) → nearest w ≡ None
   unfolding distance
   refused f =
       nearest_none w hw

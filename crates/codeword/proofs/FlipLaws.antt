@@ -2,7 +2,7 @@
 use mathlib.Core.Path.{◌≡◌, refl, sym, ap, ap₂, ◌∙◌, subst}
 use mathlib.Core.Bool.{◌&&◌}
 use mathlib.Core.Logic.{⊎_elim}
-use mathlib.Core.Option.{Option, none, some}
+use Rattle.std.specs.Prelude.{Option, None, Some}
 use Prim.Native.Nat.{ℕ, ◌+◌, ◌-◌, ◌*◌, ◌/◌, ◌%◌, ◌^◌, ◌≤◌, ◌<◌}
 use native.Mathlib.Nat.{add-zero, mod-lt}
 use native.Mathlib.Omega.{arith}
@@ -10,10 +10,9 @@ use lib.Bits.{bit_xor}
 use lib.Dec.{T, eqb, leb, ltb, eqb→eq, leb→le, ltb→lt, lit<}
 use borrow.Author.Tests.{lt-ltb, le-ltb, eq-eqb, ne_eqb}
 use Rattle.base.proofs.Bools.{and_left, and_right}
-use Rattle.codeword.specs.Answer.{answer}
+use Rattle.codeword.specs.Answer.{corrected_to, answer}
 use Rattle.codeword.specs.Code.{remainder, weight}
-use Rattle.codeword.specs.declared.Correction.{Correction}
-use Rattle.codeword.specs.declared.Correction.TheVariants.{Corrected, Refused}
+use Rattle.codeword.specs.declared.Corrected.{Corrected}
 use Rattle.codeword.specs.Nearest.{distance, errors, nearest}
 use Rattle.codeword.specs.Places.{checks, wrong_bits}
 use Rattle.codeword.proofs.CheckLaws.{checks_remainder, checks_none}
@@ -44,8 +43,8 @@ error_found e h few =
 
 -- what was found for the syndrome z: bits that explain it, or none where nothing does
 abbrev Right : ℕ → Option ℕ → Type 0
-Right z none = (e : ℕ) → Explains z e → ⊥
-Right z (some e) = Explains z e
+Right z None = (e : ℕ) → Explains z e → ⊥
+Right z (Some e) = Explains z e
 
 module _ (r o : ℕ) (hr : r < 1024) (ho : o < 2) where
   at_parity : T (explaining (r * 2 + o) (found (checks r) o))
@@ -73,15 +72,15 @@ module _ (r o : ℕ) (hr : r < 1024) (ho : o < 2) where
       subst (λ (b : Option ℕ). T (is_found e b)) (ap₂ found same_checks same_o) (error_found e x.fits x.few)
 
   right_at : (b : Option ℕ) → found (checks r) o ≡ b → Right (r * 2 + o) b
-  right_at none q = λ e x. subst (λ (b : Option ℕ). T (is_found e b)) q (its_error e x)
-  right_at (some e) q = explained (r * 2 + o) e (subst (λ (b : Option ℕ). T (explaining (r * 2 + o) b)) q at_parity)
+  right_at None q = λ e x. subst (λ (b : Option ℕ). T (is_found e b)) q (its_error e x)
+  right_at (Some e) q = explained (r * 2 + o) e (subst (λ (b : Option ℕ). T (explaining (r * 2 + o) b)) q at_parity)
 
 -- ---- what the code makes of it
 
 -- the answer to a word, by the bits to flip, if there are such
-abbrev answer_by : ℕ → Option ℕ → Correction
-answer_by w none = Refused
-answer_by w (some e) = Corrected (record { 0 = bit_xor w e }) (weight e)
+abbrev answer_by : ℕ → Option ℕ → Option Corrected
+answer_by w None = None
+answer_by w (Some e) = corrected_to (bit_xor w e) (weight e)
 
 module _ (w c o : ℕ) (h : w < 2 ^ 32) (p : c ≡ checks (w / 2)) (q : o ≡ weight w % 2) where
   right : (b : Option ℕ) → flipped c (wrong_bits c) o ≡ b → Right (syndrome w) b
@@ -93,40 +92,40 @@ module _ (w c o : ℕ) (h : w < 2 ^ 32) (p : c ≡ checks (w / 2)) (q : o ≡ we
 
   is_answer : (b : Option ℕ) → Right (syndrome w) b → answer w (nearest w) ≡ answer_by w b
   unfolding distance
-  is_answer none f = ap (answer w) (refused w h f)
-  is_answer (some e) x = ap (answer w) (corrected w h e x) ∙ ap (λ (d : ℕ). Corrected (record { 0 = bit_xor w e }) (weight d)) (xor_cancel w e)
+  is_answer None f = ap (answer w) (refused w h f)
+  is_answer (Some e) x = ap (answer w) (corrected w h e x) ∙ ap (λ (d : ℕ). corrected_to (bit_xor w e) (weight d)) (xor_cancel w e)
 
   by_found : answer w (nearest w) ≡ answer_by w (flipped c (wrong_bits c) o)
   by_found = is_answer (flipped c (wrong_bits c) o) (right (flipped c (wrong_bits c) o) refl)
 
-  pub no_check : c ≡ 0 → Corrected (record { 0 = bit_xor w o }) o ≡ answer w (nearest w)
+  pub no_check : c ≡ 0 → corrected_to (bit_xor w o) o ≡ answer w (nearest w)
   no_check z = sym (by_found ∙ rw (eq-eqb c 0 z, weight_bit o (omega arith)))
 
   module _ (wrong : ℕ) (g : wrong ≡ wrong_bits c) (n : c ≡ 0 → ⊥) where
     by_bits : answer w (nearest w) ≡ answer_by w (flipped c wrong o)
     by_bits = by_found ∙ ap (λ (x : ℕ). answer_by w (flipped c x o)) (sym g)
 
-    pub more_wrong : wrong ≡ 0 → Refused ≡ answer w (nearest w)
+    pub more_wrong : wrong ≡ 0 → None ≡ answer w (nearest w)
     more_wrong z = sym (by_bits ∙ rw (ne_eqb c 0 n, eq-eqb wrong 0 z))
 
     -- some bit is wrong, and the parity tells whether one or two
-    count : (e : ℕ) → flipped c wrong o ≡ some e → weight e ≡ 2 - o
+    count : (e : ℕ) → flipped c wrong o ≡ Some e → weight e ≡ 2 - o
     unfolding syndrome
     count e f =
-        let x = right (some e) (ap (λ (x : ℕ). flipped c x o) (sym g) ∙ f) in
+        let x = right (Some e) (ap (λ (x : ℕ). flipped c x o) (sym g) ∙ f) in
         let z : remainder 31 (e / 2) * 2 + weight e % 2 ≡ remainder 31 (w / 2) * 2 + weight w % 2 = x.explains in
-        let some_bit : weight e ≡ 0 → ⊥ = λ none.
-        let r : remainder 31 (w / 2) ≡ remainder 31 0 = omega (arith, ap (λ (x : ℕ). remainder 31 (x / 2)) (weight_none e x.fits none)) in
+        let some_bit : weight e ≡ 0 → ⊥ = λ zeros.
+        let r : remainder 31 (w / 2) ≡ remainder 31 0 = omega (arith, ap (λ (x : ℕ). remainder 31 (x / 2)) (weight_none e x.fits zeros)) in
         n (p ∙ checks_remainder (w / 2) (omega arith) ∙ ap checks r ∙ checks_none) in
         omega (arith, x.few)
 
     module _ (m : wrong ≡ 0 → ⊥) where
-      pub third_bit : single wrong < o → Refused ≡ answer w (nearest w)
+      pub third_bit : single wrong < o → None ≡ answer w (nearest w)
       third_bit l = sym (by_bits ∙ rw (ne_eqb c 0 n, ne_eqb wrong 0 m, lt-ltb (single wrong) o l))
 
-      pub few_bits : o ≤ single wrong → Corrected (record { 0 = bit_xor (bit_xor w wrong) (bit_xor (single wrong) o) }) (2 - o) ≡ answer w (nearest w)
+      pub few_bits : o ≤ single wrong → corrected_to (bit_xor (bit_xor w wrong) (bit_xor (single wrong) o)) (2 - o) ≡ answer w (nearest w)
       few_bits l =
           let e = bit_xor wrong (bit_xor (single wrong) o) in
-          let f : flipped c wrong o ≡ some e = rw (ne_eqb c 0 n, ne_eqb wrong 0 m, le-ltb (single wrong) o l) in
-          ap₂ (λ (x n : ℕ). Corrected (record { 0 = x }) n) (xor_assoc w wrong (bit_xor (single wrong) o)) (sym (count e f))
+          let f : flipped c wrong o ≡ Some e = rw (ne_eqb c 0 n, ne_eqb wrong 0 m, le-ltb (single wrong) o l) in
+          ap₂ (λ (x n : ℕ). corrected_to x n) (xor_assoc w wrong (bit_xor (single wrong) o)) (sym (count e f))
           ∙ sym (by_bits ∙ ap (answer_by w) f)

@@ -3,7 +3,7 @@
 use mathlib.Core.Path.{◌≡◌, sym, subst}
 use mathlib.Core.Bool.{Bool, true, false, cond, ◌&&◌}
 use mathlib.Core.Logic.{⊎_elim}
-use mathlib.Core.Option.{Option, none, some}
+use Rattle.std.specs.Prelude.{Option, None, Some}
 use Prim.Native.Nat.{ℕ, ◌+◌, ◌-◌, ◌*◌, ◌/◌, ◌%◌, ◌^◌, ◌<◌}
 use native.Mathlib.Nat.{mod-lt}
 use native.Mathlib.Omega.{arith}
@@ -25,8 +25,8 @@ single wrong = bool_byte (eqb (bit_and wrong (wrong - 1)) 0)
 -- the bits to flip, if there are at most two, by the checks, the wrong ones of bits 1 to 31 and the parity
 abbrev pub flipped : ℕ → ℕ → ℕ → Option ℕ
 flipped c wrong odd =
-    cond (eqb c 0) (some odd)
-    (cond (eqb wrong 0) none (cond (ltb (single wrong) odd) none (some (bit_xor wrong (bit_xor (single wrong) odd)))))
+    cond (eqb c 0) (Some odd)
+    (cond (eqb wrong 0) None (cond (ltb (single wrong) odd) None (Some (bit_xor wrong (bit_xor (single wrong) odd)))))
 
 -- the same, by the checks and the parity
 unfoldable pub found : ℕ → ℕ → Option ℕ
@@ -34,8 +34,8 @@ found c odd = flipped c (wrong_bits c) odd
 
 -- e was found
 abbrev pub is_found : ℕ → Option ℕ → Bool
-is_found e none = false
-is_found e (some d) = eqb d e
+is_found e None = false
+is_found e (Some d) = eqb d e
 
 -- every error of at most two bits is found
 pub all_found : T (all (λ e. is_found e (found (checks (e / 2)) (weight e % 2))) (errors 32))
@@ -48,8 +48,8 @@ explains z e = ltb e (2 ^ 32) && (leb (weight e) 2 && eqb (syndrome e) z)
 
 -- what was found, if anything, explains the syndrome z
 abbrev pub explaining : ℕ → Option ℕ → Bool
-explaining z none = true
-explaining z (some e) = explains z e
+explaining z None = true
+explaining z (Some e) = explains z e
 
 -- so it is for a remainder with these checks and wrong bits, at both parities
 unfoldable pub both : ℕ → ℕ → ℕ → Bool

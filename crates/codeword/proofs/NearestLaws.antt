@@ -5,7 +5,7 @@ use mathlib.Core.Bool.{Bool, true, false, ◌&&◌}
 use mathlib.Core.List.Memᴰ
 use mathlib.Core.List.{List, [], ◌∷◌, map, Memᴰ}
 use mathlib.Core.Logic.{⊎_elim}
-use mathlib.Core.Option.{Option, none, some}
+use Rattle.std.specs.Prelude.{Option, None, Some}
 use Prim.Native.Nat.{ℕ, ◌^◌, ◌≤◌, ◌<◌}
 use native.Mathlib.Omega.{arith}
 use lib.Bits.{bit_xor, xor_lt, xor_self}
@@ -23,13 +23,13 @@ use Rattle.codeword.proofs.XorLaws.{xor_cancel}
 
 -- what the search among the words with one of the errors es gives
 abbrev pub Outcome : ℕ → List ℕ → Option ℕ → Type 0
-Outcome w es none = (e : ℕ) → Memᴰ e es → T (obeys (bit_xor w e)) → ⊥
-Outcome w es (some c) = (e : ℕ) × Memᴰ e es × T (obeys c) × (c ≡ bit_xor w e)
+Outcome w es None = (e : ℕ) → Memᴰ e es → T (obeys (bit_xor w e)) → ⊥
+Outcome w es (Some c) = (e : ℕ) × Memᴰ e es × T (obeys c) × (c ≡ bit_xor w e)
 
 later : (w x : ℕ) (es : List ℕ) → (T (obeys (bit_xor w x)) → ⊥) → (o : Option ℕ) → Outcome w es o → Outcome w (x ∷ es) o
-later w x es f none out = λ e m t.
+later w x es f None out = λ e m t.
     ⊎_elim (λ q. f (subst (λ (y : ℕ). T (obeys (bit_xor w y))) q t)) (λ m'. out e m' t) (Memᴰ.cases_cons m)
-later w x es f (some c) out = (out.0, Memᴰ.tail out.1, out.2, out.3)
+later w x es f (Some c) out = (out.0, Memᴰ.tail out.1, out.2, out.3)
 
 one : (w x : ℕ) (es : List ℕ) (b : Bool) → obeys (bit_xor w x) ≡ b → (o : Option ℕ) → Outcome w es o
     → Outcome w (x ∷ es) (or_else b (bit_xor w x) o)
@@ -60,8 +60,8 @@ close_by w c e m q =
     subst (λ (x : ℕ). weight x ≤ 2) (sym (ap (bit_xor w) q ∙ xor_cancel w e)) (leb→le (weight e) 2 (and_left (leb (weight e) 2) (ltb e (2 ^ 32)) s))
 
 few_by : (w : ℕ) (o : Option ℕ) → Outcome w (errors 32) o → changed_of (answer w o) ≤ 2
-few_by w none out = omega arith
-few_by w (some c) out = close_by w c out.0 out.1 out.3
+few_by w None out = omega arith
+few_by w (Some c) out = close_by w c out.0 out.1 out.3
 
 -- no more than two bits are changed
 pub changed_few : (w : ℕ) → changed w ≤ 2
@@ -78,39 +78,39 @@ module _ (w : ℕ) (hw : w < 2 ^ 32) where
         close = close_by w c e m q;
       }
 
-  found : (o : Option ℕ) → Outcome w (errors 32) o → (c : ℕ) → o ≡ some c → Near w c
-  found none out c q = let z : ◌≡◌ {A = ℕ} 0 1 = cc in absurd (omega arith)
-  found (some d) out c q = let same : d ≡ c = cc in subst (Near w) same (near d out.0 out.1 out.2 out.3)
+  found : (o : Option ℕ) → Outcome w (errors 32) o → (c : ℕ) → o ≡ Some c → Near w c
+  found None out c q = let z : ◌≡◌ {A = ℕ} 0 1 = cc in absurd (omega arith)
+  found (Some d) out c q = let same : d ≡ c = cc in subst (Near w) same (near d out.0 out.1 out.2 out.3)
 
-  is : (o : Option ℕ) → Outcome w (errors 32) o → (c : ℕ) → Near w c → o ≡ some c
+  is : (o : Option ℕ) → Outcome w (errors 32) o → (c : ℕ) → Near w c → o ≡ Some c
   unfolding distance weight
-  is none out c n =
+  is None out c n =
       absurd (out (bit_xor w c) (in_errors 32 (bit_xor w c) (xor_lt 32 w c hw n.codeword.fits) n.close)
       (subst (λ (x : ℕ). T (obeys x)) (sym (xor_cancel w c)) n.codeword.obeying))
-  is (some d) out c n = ap some (unique w d c hw (near d out.0 out.1 out.2 out.3) n)
+  is (Some d) out c n = ap Some (unique w d c hw (near d out.0 out.1 out.2 out.3) n)
 
-  missing : (o : Option ℕ) → Outcome w (errors 32) o → Far w → o ≡ none
-  missing none out f = refl
-  missing (some d) out f = absurd (f d (near d out.0 out.1 out.2 out.3))
+  missing : (o : Option ℕ) → Outcome w (errors 32) o → Far w → o ≡ None
+  missing None out f = refl
+  missing (Some d) out f = absurd (f d (near d out.0 out.1 out.2 out.3))
 
   -- a codeword at most two bits away is what is found
-  pub nearest_is : (c : ℕ) → Near w c → nearest w ≡ some c
+  pub nearest_is : (c : ℕ) → Near w c → nearest w ≡ Some c
   nearest_is = is (nearest w) (outcome w)
 
   -- what is found is a codeword at most two bits away
-  pub nearest_near : (c : ℕ) → nearest w ≡ some c → Near w c
+  pub nearest_near : (c : ℕ) → nearest w ≡ Some c → Near w c
   nearest_near = found (nearest w) (outcome w)
 
   -- where no codeword is at most two bits away, none is found
-  pub nearest_none : Far w → nearest w ≡ none
+  pub nearest_none : Far w → nearest w ≡ None
   nearest_none = missing (nearest w) (outcome w)
 
   -- where none is found, no codeword is at most two bits away
-  pub none_near : nearest w ≡ none → Far w
-  none_near q c n = let found : nearest w ≡ some c = nearest_is c n in let z : ◌≡◌ {A = ℕ} 0 1 = cc in omega arith
+  pub none_near : nearest w ≡ None → Far w
+  none_near q c n = let found : nearest w ≡ Some c = nearest_is c n in let z : ◌≡◌ {A = ℕ} 0 1 = cc in omega arith
 
 -- a word at most two bits away from sync is corrected to it
-pub sync_near : (w : ℕ) → w < 2 ^ 32 → distance w sync ≤ 2 → nearest w ≡ some sync
+pub sync_near : (w : ℕ) → w < 2 ^ 32 → distance w sync ≤ 2 → nearest w ≡ Some sync
 sync_near w h d = nearest_is w h sync (record { codeword = sync_obeying; close = d })
 
 -- a word differs from itself in no bit

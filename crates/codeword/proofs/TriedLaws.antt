@@ -3,7 +3,8 @@ use mathlib.Core.Path.{◌≡◌, refl, sym, ap, ap₂, ◌∙◌, subst}
 use mathlib.Core.Bool.{Bool, true, false}
 use mathlib.Core.List.{List, [], ◌∷◌, ◌++◌, map}
 use mathlib.Core.Logic.{⊎_elim}
-use mathlib.Core.Option.{Option, none, some}
+use Rattle.std.specs.Prelude.{Option, None, Some, option_map}
+use Rattle.std.proofs.lemmas.Option.{none-some, same_Some}
 use Prim.Native.Nat.{ℕ, zero, suc, ◌+◌, ◌*◌, ◌-◌, ◌/◌, ◌^◌, ◌≤◌, ◌<◌}
 use native.Mathlib.Nat.{add-mul, eq-or-lt_of_le, mul_assoc, mul_comm, mul-one, one-mul, pow-suc}
 use native.Mathlib.Numerals.{add-one}
@@ -13,21 +14,18 @@ use lib.Count.{ones_in}
 use lib.Dec.{T, eqb, eqb→eq}
 use lib.Pow.{pow-add, pow-lt, shl-shr}
 use Rattle.codeword.specs.declared.Codeword.{Codeword}
-use Rattle.codeword.specs.declared.Correction.{Correction}
-use Rattle.codeword.specs.declared.Correction.TheVariants.{Corrected, Refused}
-use Rattle.codeword.specs.Answer.{answer}
+use Rattle.codeword.specs.Answer.{corrected_to, answer}
 use Rattle.codeword.specs.Code.{weight, obeys}
 use Rattle.codeword.specs.Nearest.{distance, words, errors, or_else, first_codeword, nearest}
-use Rattle.codeword.specs.Tried.{tried}
-use Rattle.codeword.proofs.AnswerLaws.{answer_corrected, answer_refused}
+use Rattle.codeword.specs.Tried.{tried, as_codeword, tried_codeword}
 use Rattle.codeword.proofs.NearestLaws.{Outcome, searched, distance_self}
 use Rattle.codeword.proofs.Tests.{all, all_at}
 use Rattle.codeword.proofs.XorLaws.{xor_assoc, xor_cancel}
 
 -- the first of two answers that is there
 abbrev or_later : Option ℕ → Option ℕ → Option ℕ
-or_later none o = o
-or_later (some c) o = some c
+or_later None o = o
+or_later (Some c) o = Some c
 
 knowing : (q : Option ℕ) {o p : Option ℕ} → o ≡ p → or_later o q ≡ or_later p q
 knowing q e = ap (λ (o : Option ℕ). or_later o q) e
@@ -87,16 +85,16 @@ unfolding words
 no_ones zero = refl
 no_ones (suc n) = ap (map (λ x. x * 2)) (no_ones n)
 
-pub itself : (w n : ℕ) {b : Bool} → obeys w ≡ b → tried w n 0 ≡ or_else b w none
+pub itself : (w n : ℕ) {b : Bool} → obeys w ≡ b → tried w n 0 ≡ or_else b w None
 unfolding tried first_codeword
 itself w n e =
     let nothing : 0 * 2 ^ (32 - n) ≡ 0 = omega arith in
     ap (λ (es : List ℕ). first_codeword (map (λ e. bit_xor w (e * 2 ^ (32 - n))) es)) (no_ones n)
-    ∙ ap (λ (x : ℕ). or_else (obeys x) x none) (ap (bit_xor w) nothing ∙ xor_zero_r w)
-    ∙ ap (λ (b : Bool). or_else b w none) e
+    ∙ ap (λ (x : ℕ). or_else (obeys x) x None) (ap (bit_xor w) nothing ∙ xor_zero_r w)
+    ∙ ap (λ (b : Bool). or_else b w None) e
 
 -- with no bits to flip nothing is found
-pub tried_start : (w d : ℕ) → tried w 0 (suc d) ≡ none
+pub tried_start : (w d : ℕ) → tried w 0 (suc d) ≡ None
 unfolding tried words first_codeword
 tried_start w d = refl
 
@@ -118,42 +116,47 @@ unfolding weight ones_in words
 two_each = tt
 
 -- so what is found with d of them flipped is d bits away
-away : (w d c : ℕ) → Ones d → tried w 32 d ≡ some c → distance w c ≡ d
+away : (w d c : ℕ) → Ones d → tried w 32 d ≡ Some c → distance w c ≡ d
 unfolding distance
 away w d c t q =
-    let out : Outcome w (words 32 d) (some c) = subst (Outcome w (words 32 d)) (sym (whole w d) ∙ q) (searched w (words 32 d)) in
+    let out : Outcome w (words 32 d) (Some c) = subst (Outcome w (words 32 d)) (sym (whole w d) ∙ q) (searched w (words 32 d)) in
     ap weight (ap (bit_xor w) out.3 ∙ xor_cancel w out.0)
     ∙ eqb→eq _ d (all_at (λ e. eqb (weight e) d) (words 32 d) t out.0 out.1)
 
 module _ (w d : ℕ) where
-  found_before : (k n c : ℕ) → k ≤ n → n ≤ 32 → tried w k (suc d) ≡ some c → tried w n (suc d) ≡ some c
-  found_before k zero c l h f = let start : k ≡ 0 = omega arith in subst (λ (x : ℕ). tried w x (suc d) ≡ some c) start f
+  found_before : (k n c : ℕ) → k ≤ n → n ≤ 32 → tried w k (suc d) ≡ Some c → tried w n (suc d) ≡ Some c
+  found_before k zero c l h f = let start : k ≡ 0 = omega arith in subst (λ (x : ℕ). tried w x (suc d) ≡ Some c) start f
   found_before k (suc n) c l h f =
       ⊎_elim
-      (λ e. subst (λ (x : ℕ). tried w x (suc d) ≡ some c) e f)
+      (λ e. subst (λ (x : ℕ). tried w x (suc d) ≡ Some c) e f)
       (λ m.
       tried_more n h w d
       ∙ knowing (tried (bit_xor w (2 ^ 31 / 2 ^ n)) n d) (found_before k n c (omega arith) (omega arith) f))
       (eq-or-lt_of_le l)
 
   -- nothing is found with the first k bits, and next comes bit k + 1
-  module _ (k : ℕ) (missed : tried w k (suc d) ≡ none) (l : k < 32) where
+  module _ (k : ℕ) (missed : tried w k (suc d) ≡ None) (l : k < 32) where
     pub tried_next : tried w (k + 1) (suc d) ≡ tried (bit_xor w (2 ^ 31 / 2 ^ k)) k d
     tried_next =
         ap (λ (n : ℕ). tried w n (suc d)) (add-one k)
         ∙ tried_more k l w d
         ∙ knowing (tried (bit_xor w (2 ^ 31 / 2 ^ k)) k d) missed
 
-    pub found : (n : ℕ) (c : Codeword) → Ones (suc d) → k < n → n ≤ 32 → tried (bit_xor w (2 ^ 31 / 2 ^ k)) k d ≡ some c.0
-        → Corrected c (suc d) ≡ answer w (tried w n (suc d))
-    found n c t m h f =
-        let there : tried w (k + 1) (suc d) ≡ some c.0 = tried_next ∙ f in
-        ap (Corrected c) (sym (away w (suc d) c.0 t (found_before (k + 1) 32 c.0 (omega arith) (omega arith) there)))
-        ∙ sym (ap (answer w) (found_before (k + 1) n c.0 (omega arith) h there))
+    pub found : (n c : ℕ) → k < n → n ≤ 32 → tried (bit_xor w (2 ^ 31 / 2 ^ k)) k d ≡ Some c → tried w n (suc d) ≡ Some c
+    found n c m h f = found_before (k + 1) n c (omega arith) h (tried_next ∙ f)
 
 -- nothing is found with any of them
-pub none_found : (w d k n : ℕ) → tried w k d ≡ none → k ≡ n → Refused ≡ answer w (tried w n d)
-none_found w d k n missed e = sym (ap (answer w) (subst (λ (x : ℕ). tried w x d ≡ none) e missed))
+pub none_found : (w d k n : ℕ) → tried w k d ≡ None → k ≡ n → None ≡ tried_codeword w n d
+none_found w d k n missed e = sym (ap (option_map as_codeword) (subst (λ (x : ℕ). tried w x d ≡ None) e missed))
+
+-- what is found, as a codeword
+pub tried_some : (o : Option ℕ) (c : Codeword) → Some c ≡ option_map as_codeword o → o ≡ Some c.0
+tried_some None c q = absurd (none-some c (sym q))
+tried_some (Some d) c q = ap Some (sym (ap (λ (x : Codeword). x.0) (same_Some _ _ q)))
+
+pub tried_none : (o : Option ℕ) → None ≡ option_map as_codeword o → o ≡ None
+tried_none None q = refl
+tried_none (Some d) q = absurd (none-some _ q)
 
 -- ---- the three together
 
@@ -165,19 +168,29 @@ module _ (w : ℕ) where
       ∙ ap₂ or_later (sym (whole w 0)) (first_of_two (bit_xor w) (words 32 1) (words 32 2) ∙ ap₂ or_later (sym (whole w 1)) (sym (whole w 2)))
 
   -- the word itself
-  pub at_once : obeys w ≡ true → Corrected (record { 0 = w }) 0 ≡ answer w (nearest w)
+  pub at_once : obeys w ≡ true → corrected_to w 0 ≡ answer w (nearest w)
   at_once e =
-      ap (Corrected (record { 0 = w })) (sym (distance_self w))
+      ap (corrected_to w) (sym (distance_self w))
       ∙ sym (ap (answer w) (all_tried ∙ knowing (or_later (tried w 32 1) (tried w 32 2)) (itself w 32 e)))
+
+  answered : (d c : ℕ) → Ones d → nearest w ≡ tried w 32 d → tried w 32 d ≡ Some c → corrected_to c d ≡ answer w (nearest w)
+  answered d c t n q = ap (corrected_to c) (sym (away w d c t q)) ∙ sym (ap (answer w) (n ∙ q))
 
   module _ (f : obeys w ≡ false) where
     flipped : nearest w ≡ or_later (tried w 32 1) (tried w 32 2)
     flipped = all_tried ∙ knowing (or_later (tried w 32 1) (tried w 32 2)) (itself w 32 f)
 
-    pub one_bit : (r : Correction) (c : Codeword) (n : ℕ) → r ≡ answer w (tried w 32 1) → r ≡ Corrected c n → r ≡ answer w (nearest w)
-    one_bit r c n q e =
-        let it : tried w 32 1 ≡ some c.0 = answer_corrected w (tried w 32 1) c n (sym e ∙ q) in
-        q ∙ ap (answer w) (it ∙ sym (flipped ∙ knowing (tried w 32 2) it))
+    pub one_bit : (c : Codeword) → Some c ≡ tried_codeword w 32 1 → corrected_to c.0 1 ≡ answer w (nearest w)
+    one_bit c q =
+        let it : tried w 32 1 ≡ Some c.0 = tried_some (tried w 32 1) c q in
+        answered 1 c.0 one_each (flipped ∙ knowing (tried w 32 2) it ∙ sym it) it
 
-    pub two_bits : Refused ≡ answer w (tried w 32 1) → answer w (tried w 32 2) ≡ answer w (nearest w)
-    two_bits q = sym (ap (answer w) (flipped ∙ knowing (tried w 32 2) (answer_refused w (tried w 32 1) q)))
+    module _ (q : None ≡ tried_codeword w 32 1) where
+      second : nearest w ≡ tried w 32 2
+      second = flipped ∙ knowing (tried w 32 2) (tried_none (tried w 32 1) q)
+
+      pub two_bits : (c : Codeword) → Some c ≡ tried_codeword w 32 2 → corrected_to c.0 2 ≡ answer w (nearest w)
+      two_bits c p = answered 2 c.0 two_each second (tried_some (tried w 32 2) c p)
+
+      pub no_bits : None ≡ tried_codeword w 32 2 → None ≡ answer w (nearest w)
+      no_bits p = sym (ap (answer w) (second ∙ tried_none (tried w 32 2) p))

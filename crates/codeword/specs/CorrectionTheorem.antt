@@ -1,6 +1,5 @@
 -- The correction theorem: what the code is, and what reading a word does, for every word of 32 bits (document 01, "Codewords").
-use Rattle.std.specs.Prelude.{◌≡◌, ℕ, ◌^◌, ◌≤◌, ◌<◌, T}
-use Rattle.std.proofs.Math.Option.{none, some}
+use Rattle.std.specs.Prelude.{◌≡◌, ℕ, ◌^◌, ◌≤◌, ◌<◌, T, None, Some}
 use Rattle.std.specs.Int.Bits.{bit_xor}
 use Rattle.codeword.specs.Answer.{answer, number_of, place_of, changed}
 use Rattle.codeword.specs.Code.{remainder, codeword, obeys, sync, idle, address_bits, message_bits}
@@ -32,13 +31,13 @@ pub record CorrectionTheorem : Type 0 where
   -- at most one codeword is at most two bits away
   pub at_most_one : (w c d : ℕ) → w < 2 ^ 32 → Near w c → Near w d → c ≡ d
   -- a word reads as the codeword at most two bits away, and as nothing else
-  pub reads : (w c : ℕ) → w < 2 ^ 32 → Near w c → nearest w ≡ some c
-  pub reads_near : (w c : ℕ) → w < 2 ^ 32 → nearest w ≡ some c → Near w c
+  pub reads : (w c : ℕ) → w < 2 ^ 32 → Near w c → nearest w ≡ Some c
+  pub reads_near : (w c : ℕ) → w < 2 ^ 32 → nearest w ≡ Some c → Near w c
   -- as many bits are changed as differ: none, one or two
   pub counts : (w c : ℕ) → w < 2 ^ 32 → Near w c → changed w ≡ distance w c
   pub counts_few : (w : ℕ) → w < 2 ^ 32 → changed w ≤ 2
   -- any other word is refused: number 20, place 0, is given exactly where no codeword is at most two bits away, and no bit is changed
-  pub refuses : (w : ℕ) → w < 2 ^ 32 → Far w → nearest w ≡ none
+  pub refuses : (w : ℕ) → w < 2 ^ 32 → Far w → nearest w ≡ None
   pub refusal : (w : ℕ) → w < 2 ^ 32 → Far w → (number_of (answer w (nearest w)) ≡ 20) × (place_of (answer w (nearest w)) ≡ 0)
   pub refusal_far : (w : ℕ) → w < 2 ^ 32 → number_of (answer w (nearest w)) ≡ 20 → Far w
   pub counts_none : (w : ℕ) → w < 2 ^ 32 → Far w → changed w ≡ 0

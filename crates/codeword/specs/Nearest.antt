@@ -1,6 +1,5 @@
 -- Reading a word: the search for a codeword at most two bits away, all 32 counted (document 01, "Codewords").
-use Rattle.std.specs.Prelude.{Bool, true, false, List, [], ◌∷◌, ◌++◌, map, ℕ, zero, suc, ◌+◌, ◌*◌}
-use Rattle.std.proofs.Math.Option.{Option, none, some}
+use Rattle.std.specs.Prelude.{Bool, true, false, List, [], ◌∷◌, ◌++◌, map, ℕ, zero, suc, ◌+◌, ◌*◌, Option, None, Some}
 use Rattle.std.specs.Int.Bits.{bit_xor}
 use Rattle.codeword.specs.Code.{weight, obeys}
 
@@ -21,12 +20,12 @@ errors k = words k 0 ++ (words k 1 ++ words k 2)
 
 -- the word where the test holds, else the other answer
 abbrev pub or_else : Bool → ℕ → Option ℕ → Option ℕ
-or_else true w o = some w
+or_else true w o = Some w
 or_else false w o = o
 
 -- the first of the words that obeys the code
 unfoldable pub first_codeword : List ℕ → Option ℕ
-first_codeword [] = none
+first_codeword [] = None
 first_codeword (w ∷ ws) = let later = first_codeword ws in or_else (obeys w) w later
 
 -- the corrected word: the word itself, else one that differs in one bit, else in two, whichever obeys the code first; else none

@@ -3,10 +3,10 @@ ghost use Rattle.std.specs.Prelude.{◌≡◌};
 ghost use Rattle.codeword.specs.Answer.{answer};
 ghost use Rattle.codeword.specs.Nearest.{nearest};
 
-use super::{Correction, correct, correct_slowly};
+use super::{Corrected, correct, correct_slowly};
 
-// Which engine corrects.
-#[derive(Clone, Copy)]
+// Which engine corrects. No closure in its place: each contract that takes one would have to say what the closure returns.
+#[derive(Clone, Copy, Debug, PartialEq, Eq)]
 pub enum Engine {
     // `correct`: by checks and parity.
     Fast,
@@ -15,14 +15,14 @@ pub enum Engine {
 }
 
 // What `correct` and `correct_slowly` return for a word.
-#[derive(Clone, Copy)]
+#[derive(Clone, Copy, Debug, PartialEq, Eq)]
 pub struct Both {
-    pub fast: Correction,
-    pub slow: Correction,
+    pub fast: Option<Corrected>,
+    pub slow: Option<Corrected>,
 }
 
 // A received word corrected by an engine.
-pub fn correct_by(engine: Engine, word: u32) -> Correction
+pub fn correct_by(engine: Engine, word: u32) -> Option<Corrected>
     ensures { result ≡ answer word (nearest word) }
 {
     match engine {

@@ -14,7 +14,7 @@ mod engines;
 mod slow;
 
 // A word of 32 bits that obeys the code: bit 1, sent first, is the top bit.
-#[derive(Clone, Copy)]
+#[derive(Clone, Copy, Debug, PartialEq, Eq)]
 pub struct Codeword(u32);
 
 impl Codeword {
@@ -49,42 +49,48 @@ impl Codeword {
     pub fn is_idle(self) -> bool
         ensures { result ≡ eqb self.0 idle }
     {
-        self.0 == Codeword::IDLE.0
+        self == Codeword::IDLE
     }
 }
 
-// What reading a word finds.
-#[derive(Clone, Copy)]
-pub enum Correction {
-    // The one codeword at most two bits away, and how many bits are changed: 0, 1 or 2.
-    Corrected(Codeword, u32),
-    // No codeword is at most two bits away: number 20.
-    Refused,
+// What a received word is corrected to.
+#[derive(Clone, Copy, Debug, PartialEq, Eq)]
+pub struct Corrected {
+    // The one codeword at most two bits away.
+    pub codeword: Codeword,
+    // How many bits are changed: 0, 1 or 2.
+    pub changed: u32,
 }
 
-// A received word corrected, by the fast engine.
-pub fn correct(word: u32) -> Correction
+// A received word corrected, by the fast engine. `None`, number 20, where no codeword is at most two bits away.
+pub fn correct(word: u32) -> Option<Corrected>
     ensures { result ≡ answer word (nearest word) }
 {
     let checks = checks(word);
     let odd = parity(word);
     // None of bits 1 to 31 is wrong: where the parity is odd, bit 32 is.
     if checks == 0 {
-        return Correction::Corrected(Codeword(word ^ odd), odd);
+        return Some(Corrected {
+            codeword: Codeword(word ^ odd),
+            changed: odd,
+        });
     }
     let wrong = wrong_bits(checks);
     if wrong == 0 {
-        return Correction::Refused;
+        return None;
     }
     // One wrong bit makes the parity odd, two make it even. Otherwise bit 32 is wrong too, and beside two others it is a third.
     let one = (wrong & (wrong - 1) == 0) as u32;
     if one < odd {
-        return Correction::Refused;
+        return None;
     }
     let bit_32 = one ^ odd;
     // Some bit is wrong, and no third: where the parity is odd it is one, where it is even they are two.
     let changed = 2 - odd;
-    Correction::Corrected(Codeword(word ^ wrong ^ bit_32), changed)
+    Some(Corrected {
+        codeword: Codeword(word ^ wrong ^ bit_32),
+        changed,
+    })
 }
 
 // In how many bits a word and sync differ. The word corrects to sync exactly if they are at most two.

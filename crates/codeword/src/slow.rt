@@ -3,9 +3,9 @@ ghost use Rattle.std.specs.Prelude.{◌≡◌, ◌/◌, ◌≤◌};
 ghost use Rattle.codeword.specs.Answer.{answer};
 ghost use Rattle.codeword.specs.Code.{remainder, obeys};
 ghost use Rattle.codeword.specs.Nearest.{nearest};
-ghost use Rattle.codeword.specs.Tried.{tried};
+ghost use Rattle.codeword.specs.Tried.{tried_codeword};
 
-use super::{Codeword, Correction, parity};
+use super::{Codeword, Corrected, parity};
 
 // Bit 1, which is sent first: the top bit. Bit k + 1 is k places lower.
 const BIT_1: u32 = 0x8000_0000;
@@ -13,46 +13,54 @@ const BIT_1: u32 = 0x8000_0000;
 // x^10 + x^9 + x^8 + x^6 + x^5 + x^3 + 1: a one for each power that is there.
 const DIVISOR: u32 = 0b111_0110_1001;
 
-// The received word, else the first word one bit away, else two, that obeys the code, and how many bits that changed. Refused where none
-// of them does.
-pub fn correct_slowly(word: u32) -> Correction
+// The received word, else the first word one bit away, else two, that obeys the code, and how many bits that changed. `None` where none of
+// them does.
+pub fn correct_slowly(word: u32) -> Option<Corrected>
     ensures { result ≡ answer word (nearest word) }
 {
     if obeys(word) {
-        return Correction::Corrected(Codeword(word), 0);
+        return Some(Corrected {
+            codeword: Codeword(word),
+            changed: 0,
+        });
     }
-    let one = one_away(word, 32);
-    if let Correction::Corrected(_, _) = one {
-        return one;
+    if let Some(codeword) = one_away(word, 32) {
+        return Some(Corrected {
+            codeword,
+            changed: 1,
+        });
     }
-    two_away(word)
+    let codeword = two_away(word)?;
+    Some(Corrected {
+        codeword,
+        changed: 2,
+    })
 }
 
 // The first word that obeys the code among those with one of the first n bits flipped.
-fn one_away(word: u32, n: u32) -> Correction
+fn one_away(word: u32, n: u32) -> Option<Codeword>
     requires { n ≤ 32 }
-    ensures { result ≡ answer word (tried word n 1) }
+    ensures { result ≡ tried_codeword word n 1 }
 {
     for k in 0u32..n {
         let flipped = word ^ (BIT_1 >> k);
         if obeys(flipped) {
-            return Correction::Corrected(Codeword(flipped), 1);
+            return Some(Codeword(flipped));
         }
     }
-    Correction::Refused
+    None
 }
 
 // The first word that obeys the code among those with two bits flipped: each bit with each of the bits before it, so no pair comes twice.
-fn two_away(word: u32) -> Correction
-    ensures { result ≡ answer word (tried word 32 2) }
+fn two_away(word: u32) -> Option<Codeword>
+    ensures { result ≡ tried_codeword word 32 2 }
 {
     for k in 0u32..32 {
-        let found = one_away(word ^ (BIT_1 >> k), k);
-        if let Correction::Corrected(c, _) = found {
-            return Correction::Corrected(c, 2);
+        if let Some(codeword) = one_away(word ^ (BIT_1 >> k), k) {
+            return Some(codeword);
         }
     }
-    Correction::Refused
+    None
 }
 
 // Whether a word obeys the code. A sender chooses bits 22 to 31 so that nothing is left of bits 1 to 31 after the division, and bit 32 so

@@ -1,6 +1,8 @@
-use mathlib.Core.Path.{sym, ◌∙◌}
+use mathlib.Core.Path.{sym, ap, ◌∙◌}
 use native.Mathlib.Omega.{arith}
-use Rattle.codeword.proofs.TriedLaws.{tried_start, tried_next, found, none_found, one_each, itself}
+use Rattle.std.specs.Prelude.{option_map}
+use Rattle.codeword.specs.Tried.{as_codeword}
+use Rattle.codeword.proofs.TriedLaws.{tried_start, tried_next, found, none_found, itself}
 use Rattle.codeword.proofs.slow.one_away.Goals as goal
 
 pub loop-k-init : goal.loop-k-init
@@ -8,8 +10,8 @@ loop-k-init c = (omega arith, tried_start _ 0)
 
 pub returns-then-obeys : goal.returns-then-obeys
 returns-then-obeys c =
-    found _ 0 c.loop-k.k c.loop-k.invariant.1 (omega arith) _ _ one_each (omega arith) (omega arith)
-    (itself _ c.loop-k.k (sym c.obeys.ensures ∙ c.if-obeys.true))
+    ap (option_map as_codeword) (sym (found _ 0 c.loop-k.k c.loop-k.invariant.1 (omega arith) _ _ (omega arith) (omega arith)
+    (itself _ c.loop-k.k (sym c.obeys.ensures ∙ c.if-obeys.true))))
 
 pub loop-k-preserved : goal.loop-k-preserved
 loop-k-preserved c = (
