@@ -9,6 +9,8 @@ use native.Mathlib.Omega.{arith}
 use lib.ListN.{length, get_or, replicate, get_or-append}
 use lib.Dec.{leb, ltb, eqb}
 use borrow.Author.Tests.{leb-false, ltb-false, eqb-true, eqb-false}
+use Rattle.job.specs.Refusal.{JobAnswer, refused}
+use Rattle.std.specs.Prelude.{Result, Ok, Err}
 use Rattle.base.specs.Lines.{Lines, behind, line, onto, split, line_at, line_count, line_start}
 use Rattle.base.proofs.LinesLaws.{end_inside, line_there}
 use Rattle.phrases.specs.Book.{book_fault}
@@ -20,26 +22,22 @@ use Rattle.job.specs.Accepted.{PageRead, AcceptedJob}
 use Rattle.job.specs.declared.Refusal.{Refusal}
 use Rattle.job.specs.declared.Refusal.TheVariants.{Malformed, TooManyLines, EmptyJob, BadBook}
 use Rattle.job.specs.declared.Page.{Page}
-use Rattle.job.specs.declared.LineAnswer.{LineAnswer}
-use Rattle.job.specs.declared.LineAnswer.TheVariants.{Good, Faulty}
-use Rattle.job.specs.declared.JobAnswer.{JobAnswer}
-use Rattle.job.specs.declared.JobAnswer.TheVariants.{Accepted, Refused}
 use Rattle.job.proofs.Laws.{judge_unended, pages_next}
 use Rattle.job.proofs.Plain.{Fine, fine}
 
 -- ---- what an accepting answer says of the tests that led to it
 
-not_refused : (b : Bool) (w : Refusal) (p : ℕ) (x : JobAnswer) {n : ℕ} → cond b (Refused w p) x ≡ Accepted n → (b ≡ false) × (x ≡ Accepted n)
+not_refused : (b : Bool) (w : Refusal) (p : ℕ) (x : JobAnswer) {n : ℕ} → cond b (refused w p) x ≡ Ok n → (b ≡ false) × (x ≡ Ok n)
 not_refused true w p x e = let z : ◌≡◌ {A = ℕ} 0 1 = cc in absurd (omega arith)
 not_refused false w p x e = (refl, e)
 
-end_accepted : (b : Bool) (k : ℕ) (x : JobAnswer) {n : ℕ} → ((m : ℕ) → x ≡ Accepted m → ⊥) → cond b (Accepted k) x ≡ Accepted n → (k ≡ n) × (b ≡ true)
+end_accepted : (b : Bool) (k : ℕ) (x : JobAnswer) {n : ℕ} → ((m : ℕ) → x ≡ Ok m → ⊥) → cond b (Ok k) x ≡ Ok n → (k ≡ n) × (b ≡ true)
 end_accepted true k x f e = (cc, refl)
 end_accepted false k x {n} f e = absurd (f n e)
 
-after_good : (x : LineAnswer) (p : ℕ) (r : JobAnswer) {n : ℕ} → after x p r ≡ Accepted n → (r ≡ Accepted n) × (x ≡ Good (page_in x))
-after_good (Good page) p r e = (e, refl)
-after_good (Faulty w) p r e = let z : ◌≡◌ {A = ℕ} 0 1 = cc in absurd (omega arith)
+after_good : (x : Result Page Refusal) (p : ℕ) (r : JobAnswer) {n : ℕ} → after x p r ≡ Ok n → (r ≡ Ok n) × (x ≡ Ok (page_in x))
+after_good (Ok page) p r e = (e, refl)
+after_good (Err w) p r e = let z : ◌≡◌ {A = ℕ} 0 1 = cc in absurd (omega arith)
 
 -- ---- how long a job is
 
@@ -66,7 +64,7 @@ split_bytes (b ∷ s) = go (eqb b 10) (split_bytes s)
 
 -- the line at index p is good with the book b, and the page at this index is its page
 abbrev GoodAt : List ℕ → ℕ → ℕ → Lines → Type 0
-GoodAt b at p ls = line_of b (at + line_start p ls) (line_at p ls) ≡ Good (get_or (pages_from b at ls) p no_page)
+GoodAt b at p ls = line_of b (at + line_start p ls) (line_at p ls) ≡ Ok (get_or (pages_from b at ls) p no_page)
 
 -- lines that are accepted behind k good ones
 record Judged (b : List ℕ) (at k n : ℕ) (ls : Lines) : Type 0 where
@@ -75,17 +73,17 @@ record Judged (b : List ℕ) (at k n : ℕ) (ls : Lines) : Type 0 where
   each : (p : ℕ) → k + p < n → GoodAt b at p ls
   short : 490 * k + bytes_in ls ≤ 490 * n
 
-each_more : (b : List ℕ) (at : ℕ) (l : List ℕ) (ls : Lines) (k n : ℕ) → line_of b at l ≡ Good (page_in (line_of b at l))
+each_more : (b : List ℕ) (at : ℕ) (l : List ℕ) (ls : Lines) (k n : ℕ) → line_of b at l ≡ Ok (page_in (line_of b at l))
     → ((p : ℕ) → k + 1 + p < n → GoodAt b (at + length l + 1) p ls) → (p : ℕ) → k + p < n → GoodAt b at p (line l ls)
 unfolding line_at line_start pages_from
 each_more b at l ls k n g f zero h = let z : at + 0 ≡ at = omega arith in rw z g
 each_more b at l ls k n g f (suc p) h = let e : at + (length l + 1 + line_start p ls) ≡ at + length l + 1 + line_start p ls = omega arith in rw e (f p (omega arith))
 
-judged : (b : List ℕ) → book_fault b ≡ 0 → (ls : Lines) (at k n : ℕ) → k ≤ 48 → judge b at k ls ≡ Accepted n → Judged b at k n ls
+judged : (b : List ℕ) → book_fault b ≡ 0 → (ls : Lines) (at k n : ℕ) → k ≤ 48 → judge b at k ls ≡ Ok n → Judged b at k n ls
 unfolding judge pages_from bytes_in
 judged b ok (behind p) at k n h e =
-    let q = end_accepted (eqb (length p) 0) k (cond (leb 48 k) (Refused TooManyLines 49) (Refused Malformed (k + 1)))
-    (λ m f. let x = not_refused (leb 48 k) TooManyLines 49 (Refused Malformed (k + 1)) f in
+    let q = end_accepted (eqb (length p) 0) k (cond (leb 48 k) (refused TooManyLines 49) (refused Malformed (k + 1)))
+    (λ m f. let x = not_refused (leb 48 k) TooManyLines 49 (refused Malformed (k + 1)) f in
     let z : ◌≡◌ {A = ℕ} 0 1 = cc in omega arith) e in
     record { count = omega (arith, q.0); few = omega (arith, q.0); each = λ i l. absurd (omega (arith, q.0)); short = omega (arith, q.0, eqb-true (length p) 0 q.1) }
 judged b ok (line l ls) at k n h e =
@@ -101,14 +99,14 @@ page_each b (line l ls) at = ap suc (page_each b ls (at + length l + 1))
 
 -- ---- an accepted job
 
-module _ (s : Submission) (n : ℕ) (ok : job_of s ≡ Accepted n) where
+module _ (s : Submission) (n : ℕ) (ok : job_of s ≡ Ok n) where
   abbrev b : List ℕ
   b = s.book
 
   abbrev ls : Lines
   ls = split s.job
 
-  nonempty : (book_fault b ≡ 0) × (length s.job ≡ 0 → ⊥) × (judge b 0 0 ls ≡ Accepted n)
+  nonempty : (book_fault b ≡ 0) × (length s.job ≡ 0 → ⊥) × (judge b 0 0 ls ≡ Ok n)
   unfolding job_of
   nonempty =
       let x = not_refused (ltb 0 (book_fault b)) BadBook (book_fault b) _ ok in
@@ -127,7 +125,7 @@ module _ (s : Submission) (n : ℕ) (ok : job_of s ≡ Accepted n) where
   unfolding pages_of
   least =
       ⊎_elim
-      (λ u. let q : Refused Malformed (0 + 1) ≡ Accepted n = sym (judge_unended b s.job 0 0 (omega arith) (let h = nonempty.1 in omega arith) (omega arith)) ∙ nonempty.2 in
+      (λ u. let q : refused Malformed (0 + 1) ≡ Ok n = sym (judge_unended b s.job 0 0 (omega arith) (let h = nonempty.1 in omega arith) (omega arith)) ∙ nonempty.2 in
       let z : ◌≡◌ {A = ℕ} 0 1 = cc in absurd (omega arith))
       (λ c. omega (arith, counted, ap length (pages_next b s.job 0 c)))
       (eq-or-lt_of_le (end_inside s.job 0 zero-le))
@@ -166,8 +164,8 @@ module _ (s : Submission) (n : ℕ) (ok : job_of s ≡ Accepted n) where
 
 answer_of : (a : JobAnswer) (ps : List Page) → (answer_with a ps).answer ≡ a
 unfolding answer_with table_of
-answer_of (Accepted n) ps = refl
-answer_of (Refused why place) ps = refl
+answer_of (Ok n) ps = refl
+answer_of (Err r) ps = refl
 
 pub answered : (s : Submission) → (reading_of s).answer ≡ job_of s
 unfolding reading_of

@@ -7,6 +7,8 @@ use native.Mathlib.Omega.{arith}
 use lib.ListN.{length, take, drop}
 use lib.Dec.{eqb}
 use borrow.Author.Tests.{lt-ltb, eq-eqb, ne_eqb}
+use Rattle.job.specs.Refusal.{refused}
+use Rattle.std.specs.Prelude.{Err}
 use Rattle.base.specs.Hex.{is_hex}
 use Rattle.base.specs.Leading.{leading}
 use Rattle.base.specs.Lines.{split}
@@ -16,8 +18,6 @@ use Rattle.job.specs.Line.{is_digits, is_pairs, page_of}
 use Rattle.job.specs.Job.{judge, table_of, answer_with}
 use Rattle.job.specs.declared.Page.{Page}
 use Rattle.job.specs.declared.Refusal.TheVariants.{IdentityRange, TooManyLines}
-use Rattle.job.specs.declared.LineAnswer.TheVariants.{Faulty}
-use Rattle.job.specs.declared.JobAnswer.TheVariants.{Refused}
 use Rattle.job.proofs.Laws.{judge_many}
 use Rattle.job.proofs.Keeping.{answer_refused}
 
@@ -36,11 +36,11 @@ pub digits_behind : (t : List ℕ) (n : ℕ) → n ≤ leading is_hex t → lead
 digits_behind t n h = let e = leading_behind is_hex t n h in rw (to_end n t) (omega (arith, e))
 
 -- an identity above 1FFFFF is number 2
-pub identity_high : (b : List ℕ) (page : Page) (digits : List ℕ) → 0x1FFFFF < page.identity → page_of b page digits ≡ Faulty IdentityRange
+pub identity_high : (b : List ℕ) (page : Page) (digits : List ℕ) → 0x1FFFFF < page.identity → page_of b page digits ≡ Err IdentityRange
 unfolding page_of
 identity_high b page digits h = simp (lt-ltb 0x1FFFFF page.identity h)
 
 -- a job that goes on behind 48 lines is number 8
 pub many_refused : (b job : List ℕ) (at k : ℕ) (ps : List Page) → at < length job → 48 ≤ k
-    → answer_with (judge b at k (split (drop at job))) ps ≡ table_of (Refused TooManyLines 49) []
+    → answer_with (judge b at k (split (drop at job))) ps ≡ table_of (refused TooManyLines 49) []
 many_refused b job at k ps inside many = sym (answer_refused _ ps (judge_many b job at k inside many))

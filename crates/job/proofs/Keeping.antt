@@ -5,6 +5,8 @@ use mathlib.Core.List.{List, [], ◌∷◌, ◌++◌}
 use native.Mathlib.Numerals.{add-one}
 use native.Mathlib.Omega.{arith}
 use lib.ListN.{length, set, get_or, take, drop, replicate, length-drop}
+use Rattle.job.specs.Refusal.{JobAnswer, refused}
+use Rattle.std.specs.Prelude.{Ok}
 use Rattle.base.specs.Lines.{split, line_end}
 use Rattle.base.proofs.LinesLaws.{none_left, first}
 use Rattle.base.proofs.ListLaws.{filled, filled-suc, equal-left}
@@ -15,9 +17,6 @@ use Rattle.job.specs.Pages.{page_in, pages_from, pages_of, no_page}
 use Rattle.job.specs.Job.{judge, table_of, answer_with}
 use Rattle.job.specs.declared.Refusal.{Refusal}
 use Rattle.job.specs.declared.Page.{Page}
-use Rattle.job.specs.declared.LineAnswer.TheVariants.{Good}
-use Rattle.job.specs.declared.JobAnswer.{JobAnswer}
-use Rattle.job.specs.declared.JobAnswer.TheVariants.{Accepted, Refused}
 use Rattle.job.specs.declared.Pages.{Pages}
 use Rattle.job.proofs.Laws.{judge_done, judge_line, pages_next}
 
@@ -49,7 +48,7 @@ module _ (b job : List ℕ) (at k : ℕ) {pages : List Page} (so : Keeping b job
   abbrev ps : List Page
   ps = pages_of (with_book job b)
 
-  one_more : {p : Page} → k < 48 → line_end job at < length job → line_of b at (first job at) ≡ Good p → Keeping b job (line_end job at + 1) (k + 1) (set pages k p)
+  one_more : {p : Page} → k < 48 → line_end job at < length job → line_of b at (first job at) ≡ Ok p → Keeping b job (line_end job at + 1) (k + 1) (set pages k p)
   one_more {p} m h e =
       let f = from-drop ps k no_page (so.left ∙ pages_next b job at h) in
       let here : k < length ps = f.0 in
@@ -64,7 +63,7 @@ module _ (b job : List ℕ) (at k : ℕ) {pages : List Page} (so : Keeping b job
       }
 
   -- one more page
-  pub keeping_more : {end : ℕ} {p : Page} → end ≡ line_end job at → k < 48 → end < length job → line_of b at (take (end - at) (drop at job)) ≡ Good p
+  pub keeping_more : {end : ℕ} {p : Page} → end ≡ line_end job at → k < 48 → end < length job → line_of b at (take (end - at) (drop at job)) ≡ Ok p
       → Keeping b job (end + 1) (k + 1) (set pages k p)
   keeping_more q m h e = rw q (one_more m (rw q at h) (rw q at e))
 
@@ -80,11 +79,11 @@ module _ (b job : List ℕ) (at k : ℕ) {pages : List Page} (so : Keeping b job
       so.kept
       ∙ ap₂ ◌++◌ (take_all k ps (omega (arith, all_passed h))) (equal-left no_page 48 k ∙ ap (λ (i : ℕ). replicate (48 - i) no_page) (all_passed h))
 
-  pub keeping_all : length job ≤ at → ◌≡◌ {A = Pages} (record { answer = Accepted k; pages = pages }) (answer_with (judge b 0 0 (split job)) ps)
+  pub keeping_all : length job ≤ at → ◌≡◌ {A = Pages} (record { answer = Ok k; pages = pages }) (answer_with (judge b 0 0 (split job)) ps)
   unfolding answer_with table_of
   keeping_all h = rw (so.answer ∙ judge_done b job at k h, whole h)
 
 -- a refused job
-pub answer_refused : (a : JobAnswer) (ps : List Page) {why : Refusal} {place : ℕ} → a ≡ Refused why place → table_of (Refused why place) [] ≡ answer_with a ps
+pub answer_refused : (a : JobAnswer) (ps : List Page) {why : Refusal} {place : ℕ} → a ≡ refused why place → table_of (refused why place) [] ≡ answer_with a ps
 unfolding answer_with
 answer_refused a ps e = rw e

@@ -10,6 +10,8 @@ use lib.Seq.{drop-drop}
 use lib.Dec.{leb, eqb}
 use borrow.Author.Tests.{le-leb, lt-leb, ne_eqb, leb-true, eqb-true, eqb-false, not-true}
 use native.Mathlib.Nat.{eq-or-lt_of_le}
+use Rattle.job.specs.Refusal.{refused}
+use Rattle.std.specs.Prelude.{Result, Ok}
 use Rattle.base.specs.Hex.{is_hex, bytes_of}
 use Rattle.base.specs.Leading.{leading}
 use Rattle.base.specs.Lines.{split, line_end}
@@ -19,12 +21,12 @@ use Rattle.base.proofs.LeadingLaws.{leading_le}
 use Rattle.base.proofs.LinesLaws.{end_inside, none_left, cut, uncut, first, first_next}
 use Rattle.text.specs.Coding.{char_ok, char_run}
 use Rattle.text.proofs.RunLaws.{run_chars}
+use Rattle.job.specs.declared.Refusal.{Refusal}
+use Rattle.job.specs.declared.Page.{Page}
 use Rattle.job.specs.Line.{is_data, all_hex, is_digits, is_pairs, head_formed, text_formed, tail_formed, well_formed, coding_of, good_run, kind_of, text_digits, line_of}
 use Rattle.job.specs.Pages.{page_in, pages_from}
 use Rattle.job.specs.Job.{after, judge}
 use Rattle.job.specs.declared.Refusal.TheVariants.{Malformed, TooManyLines}
-use Rattle.job.specs.declared.LineAnswer.{LineAnswer}
-use Rattle.job.specs.declared.JobAnswer.TheVariants.{Accepted, Refused}
 
 pub head_long : (l : List ℕ) → head_formed l ≡ true → 8 ≤ length l
 unfolding head_formed
@@ -87,11 +89,11 @@ module _ (t : List ℕ) (kind : ℕ) where
 
 -- The answer to what is left from the byte `at` on, behind k good lines, with the book b.
 module _ (b job : List ℕ) (at k : ℕ) where
-  pub judge_done : length job ≤ at → judge b at k (split (drop at job)) ≡ Accepted k
+  pub judge_done : length job ≤ at → judge b at k (split (drop at job)) ≡ Ok k
   unfolding judge
   judge_done h = rw (none_left job at h)
 
-  pub judge_many : at < length job → 48 ≤ k → judge b at k (split (drop at job)) ≡ Refused TooManyLines 49
+  pub judge_many : at < length job → 48 ≤ k → judge b at k (split (drop at job)) ≡ refused TooManyLines 49
   unfolding judge
   judge_many h m =
       let d = length-drop at job in
@@ -100,13 +102,13 @@ module _ (b job : List ℕ) (at k : ℕ) where
       (λ l. rw (cut job at l) (simp (le-leb 48 k m)))
       (eq-or-lt_of_le (end_inside job at (omega arith)))
 
-  pub judge_unended : k < 48 → at < length job → length job ≤ line_end job at → judge b at k (split (drop at job)) ≡ Refused Malformed (k + 1)
+  pub judge_unended : k < 48 → at < length job → length job ≤ line_end job at → judge b at k (split (drop at job)) ≡ refused Malformed (k + 1)
   unfolding judge
   judge_unended m h u =
       let d = length-drop at job in
       rw (uncut job at (omega arith) u) (simp (ne_eqb (length (drop at job)) 0 (λ z. omega arith), lt-leb 48 k m))
 
-  pub judge_line : {end : ℕ} {x : LineAnswer} → end ≡ line_end job at → k < 48 → end < length job → x ≡ line_of b at (take (end - at) (drop at job))
+  pub judge_line : {end : ℕ} {x : Result Page Refusal} → end ≡ line_end job at → k < 48 → end < length job → x ≡ line_of b at (take (end - at) (drop at job))
       → judge b at k (split (drop at job)) ≡ after x (k + 1) (judge b (end + 1) (k + 1) (split (drop (end + 1) job)))
   unfolding judge
   judge_line {end} q m h e = rw (e, q, cut job at (rw q at h)) (rw (first_next job at (rw q at h)) (simp (lt-leb 48 k m)))

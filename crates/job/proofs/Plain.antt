@@ -9,6 +9,7 @@ use lib.ListN.{length, take, drop, length-drop}
 use lib.Seq.{drop-drop}
 use lib.Dec.{leb, eqb}
 use borrow.Author.Tests.{eq-eqb, ne_eqb, le-leb}
+use Rattle.std.specs.Prelude.{Ok}
 use Rattle.base.specs.Hex.{is_hex, hex_of, bytes_of}
 use Rattle.base.proofs.Bools.{and_true, and_both}
 use Rattle.base.proofs.ListLaws.{drop_take}
@@ -20,7 +21,6 @@ use Rattle.job.specs.Line.{is_data, kind_sent, all_hex, is_pairs, head_formed, t
 use Rattle.job.specs.Pages.{digits_in, phrased, plain}
 use Rattle.job.specs.Accepted.{TextSound, Sound}
 use Rattle.job.specs.declared.Page.{Page}
-use Rattle.job.specs.declared.LineAnswer.TheVariants.{Good}
 use Rattle.job.proofs.Laws.{head_long}
 use Rattle.job.proofs.PhraseText.{phrase_text}
 use Rattle.job.proofs.Sound.{KindSound, Named, Passed, passed, sound}
@@ -127,7 +127,7 @@ fine_phrase b at l {p} ok t n =
 
 -- ---- every good line
 
-pub fine : (b : List ℕ) (at : ℕ) (l : List ℕ) {p : Page} → book_fault b ≡ 0 → line_of b at l ≡ Good p → Fine b at l p (plain b l)
+pub fine : (b : List ℕ) (at : ℕ) (l : List ℕ) {p : Page} → book_fault b ≡ 0 → line_of b at l ≡ Ok p → Fine b at l p (plain b l)
 fine b at l ok e =
     let t = passed b at l e in
     ⊎_elim

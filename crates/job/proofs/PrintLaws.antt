@@ -14,7 +14,6 @@ use Rattle.base.proofs.LinesLaws.{split_whole}
 use Rattle.base.proofs.ListLaws.{has_append}
 use Rattle.job.specs.Line.{identity_of}
 use Rattle.job.specs.Print.{head_of, spaced, ending, printed}
-use Rattle.job.specs.declared.Printing.TheVariants.{Printed, NoRoom}
 
 pub spaced_none : (ds : List ℕ) → length ds ≡ 0 → spaced ds ≡ []
 spaced_none [] h = refl
@@ -103,11 +102,3 @@ module _ (identity kind : ℕ) (ds : List ℕ) where
   unended_identity cut h =
       let none : identity / 16 ^ 6 ≡ 0 = omega arith in
       six cut ∙ ap (λ (n : ℕ). hex_number n (digits_of 6 identity)) (sym none) ∙ digits_back 6 identity
-
--- ---- what printing answers
-
-pub no_room_printed : {n : ℕ} → NoRoom ≡ Printed n → ⊥
-no_room_printed e = let z : ◌≡◌ {A = ℕ} 0 1 = cc in omega arith
-
-pub bytes_printed_lem : {m n : ℕ} → Printed m ≡ Printed n → m ≡ n
-bytes_printed_lem e = cc

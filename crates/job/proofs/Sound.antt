@@ -8,6 +8,7 @@ use native.Mathlib.Omega.{arith}
 use lib.ListN.{length}
 use lib.Dec.{leb, ltb, eqb}
 use borrow.Author.Tests.{ltb-false, leb-true, eqb-true, eqb-false, ne_eqb}
+use Rattle.std.specs.Prelude.{Result, Ok, Err}
 use Rattle.base.specs.Hex.{between, bytes_of}
 use Rattle.base.proofs.Bools.{and_true}
 use Rattle.base.proofs.HexLaws.{bytes_length}
@@ -23,17 +24,15 @@ use Rattle.job.specs.Accepted.{TextSound, DataSound, Sound}
 use Rattle.job.specs.declared.Refusal.{Refusal}
 use Rattle.job.specs.declared.Refusal.TheVariants.{Malformed, IdentityRange, IdentityReserved, UnknownKind, PartialGroup, ToneWithText, TextMissing, TextTooLong, Character, TrailingSpace}
 use Rattle.job.specs.declared.Page.{Page}
-use Rattle.job.specs.declared.LineAnswer.{LineAnswer}
-use Rattle.job.specs.declared.LineAnswer.TheVariants.{Good, Faulty}
 use Rattle.job.proofs.Laws.{text_even}
 use Rattle.job.proofs.Message.{is_data_lem, no_data, data_kind, count_data, count_text}
 
 -- a page comes past a test only where the test failed, or where it passed
-past : (b : Bool) (w : Refusal) (r : LineAnswer) {p : Page} → cond b (Faulty w) r ≡ Good p → (b ≡ false) × (r ≡ Good p)
+past : (b : Bool) (w : Refusal) (r : Result Page Refusal) {p : Page} → cond b (Err w) r ≡ Ok p → (b ≡ false) × (r ≡ Ok p)
 past true w r e = let z : ◌≡◌ {A = ℕ} 0 1 = cc in absurd (omega arith)
 past false w r e = (refl, e)
 
-kept : (b : Bool) (w : Refusal) (r : LineAnswer) {p : Page} → cond b r (Faulty w) ≡ Good p → (b ≡ true) × (r ≡ Good p)
+kept : (b : Bool) (w : Refusal) (r : Result Page Refusal) {p : Page} → cond b r (Err w) ≡ Ok p → (b ≡ true) × (r ≡ Ok p)
 kept true w r e = (refl, e)
 kept false w r e = let z : ◌≡◌ {A = ℕ} 0 1 = cc in absurd (omega arith)
 
@@ -49,7 +48,7 @@ tone_sound kind bytes low e =
       unspaced = rw (ne_eqb kind 4 (λ z. omega arith));
     }
 
-text_sound : (page : Page) (bytes : List ℕ) → 4 ≤ page.kind → {p : Page} → text_page_of page bytes ≡ Good p → TextSound page.kind bytes × (Good page ≡ Good p)
+text_sound : (page : Page) (bytes : List ℕ) → 4 ≤ page.kind → {p : Page} → text_page_of page bytes ≡ Ok p → TextSound page.kind bytes × (page ≡ p)
 unfolding text_page_of
 text_sound page bytes low e =
     let kind = page.kind in
@@ -65,10 +64,10 @@ text_sound page bytes low e =
         chars = ltb-false _ _ p3.0;
         unspaced = p4.0;
       },
-      p4.1,
+      (let same = p4.1 in cc),
     )
 
-data_sound : (page : Page) (digits : List ℕ) {p : Page} → data_page_of page digits ≡ Good p → DataSound digits × (Good page ≡ Good p)
+data_sound : (page : Page) (digits : List ℕ) {p : Page} → data_page_of page digits ≡ Ok p → DataSound digits × (page ≡ p)
 unfolding data_page_of
 data_sound page digits e =
     let p1 = past (ltb 0 (length digits % 5)) PartialGroup _ e in
@@ -77,7 +76,7 @@ data_sound page digits e =
     let whole : length digits % 5 ≤ 0 = ltb-false 0 (length digits % 5) p1.0 in
     let some : length digits ≡ 0 → ⊥ = eqb-false (length digits) 0 p2.0 in
     let most : length digits / 5 ≤ 84 = ltb-false 84 (length digits / 5) p3.0 in
-    (record { whole = omega arith; some = omega arith; most = omega arith }, p3.1)
+    (record { whole = omega arith; some = omega arith; most = omega arith }, (let same = p3.1 in cc))
 
 -- what the kind and the digits of a page have
 pub record KindSound (kind : ℕ) (digits : List ℕ) : Type 0 where
@@ -90,22 +89,22 @@ pub record Named (b : List ℕ) (page : Page) (digits : List ℕ) (p : Page) : T
   pub kind : page.kind ≡ 9
   pub place : Phrase
   pub found : phrase_for b digits ≡ Some place
-  pub same : phrase_page_of page (Some place) ≡ Good p
+  pub same : phrase_page_of page (Some place) ≡ Ok p
 
-named : (b : List ℕ) (page : Page) (digits : List ℕ) (f : Option Phrase) {p : Page} → page.kind ≡ 9 → phrase_for b digits ≡ f → phrase_page_of page f ≡ Good p → Named b page digits p
+named : (b : List ℕ) (page : Page) (digits : List ℕ) (f : Option Phrase) {p : Page} → page.kind ≡ 9 → phrase_for b digits ≡ f → phrase_page_of page f ≡ Ok p → Named b page digits p
 named b page digits (Some f) k e g = record { kind = k; place = f; found = e; same = g }
 named b page digits None k e g = let z : ◌≡◌ {A = ℕ} 0 1 = cc in absurd (omega arith)
 
 -- a good page is that of its line, or it has a phrase
 abbrev pub KindGood : List ℕ → Page → List ℕ → Page → Type 0
-KindGood b page digits p = (KindSound page.kind digits × (Good page ≡ Good p)) ⊎ Named b page digits p
+KindGood b page digits p = (KindSound page.kind digits × (page ≡ p)) ⊎ Named b page digits p
 
-kind_good : (b : List ℕ) (page : Page) (digits : List ℕ) {p : Page} → kind_page_of b page digits ≡ Good p → KindGood b page digits p
+kind_good : (b : List ℕ) (page : Page) (digits : List ℕ) {p : Page} → kind_page_of b page digits ≡ Ok p → KindGood b page digits p
 unfolding kind_page_of tone_page_of
 kind_good b page digits {p} = go (between 0 3 page.kind) (between 4 5 page.kind) (is_data page.kind) (eqb page.kind 9 && has_book b) refl refl refl refl
   where
     go : (t u d v : Bool) → between 0 3 page.kind ≡ t → between 4 5 page.kind ≡ u → is_data page.kind ≡ d → eqb page.kind 9 && has_book b ≡ v
-        → cond t (tone_page_of page digits) (cond u (text_page_of page (bytes_of digits)) (cond d (data_page_of page digits) (cond v (phrase_page_of page (phrase_for b digits)) (Faulty UnknownKind)))) ≡ Good p
+        → cond t (tone_page_of page digits) (cond u (text_page_of page (bytes_of digits)) (cond d (data_page_of page digits) (cond v (phrase_page_of page (phrase_for b digits)) (Err UnknownKind)))) ≡ Ok p
         → KindGood b page digits p
     go true u d v e f h k g =
         let kind = page.kind in
@@ -114,7 +113,7 @@ kind_good b page digits {p} = go (between 0 3 page.kind) (between 4 5 page.kind)
         let low : kind ≤ 3 = leb-true kind 3 (and_true (leb 0 kind) (leb kind 3) e).1 in
         inl (
           record { known = omega arith; text = λ _. tone_sound kind (bytes_of digits) low (omega (arith, bytes_length digits)); grouped = λ z. absurd (omega arith) },
-          p.1,
+          (let same = p.1 in cc),
         )
     go false true d v e f h k g =
         let kind = page.kind in
@@ -189,7 +188,7 @@ pub record Passed (b : List ℕ) (at : ℕ) (l : List ℕ) (p : Page) : Type 0 w
   pub free : is_reserved (identity_of l) ≡ false
   pub kinds : KindGood b (page_from at l) (text_digits l) p
 
-pub passed : (b : List ℕ) (at : ℕ) (l : List ℕ) {p : Page} → line_of b at l ≡ Good p → Passed b at l p
+pub passed : (b : List ℕ) (at : ℕ) (l : List ℕ) {p : Page} → line_of b at l ≡ Ok p → Passed b at l p
 unfolding line_of page_of
 passed b at l e =
     let p1 = kept (well_formed l) Malformed _ e in

@@ -1,7 +1,7 @@
 -- What one page line says, without its newline: a page, or its first refusal in the order of the table (document 01, "Page lines"),
 -- where 12, 13 and 14 have 5's rank, between 4 and 6 (request R-1), 25 comes between 4 and them (request R-11), and 18 has their rank
 -- (request R-6).
-use Rattle.std.specs.Prelude.{ℕ, ◌+◌, ◌-◌, ◌/◌, ◌%◌, ◌≡◌, List, Bool, false, cond, not, ◌&&◌, ◌||◌, Option, Some, None, length, get_or, take, drop, leb, ltb, eqb}
+use Rattle.std.specs.Prelude.{ℕ, ◌+◌, ◌-◌, ◌/◌, ◌%◌, ◌≡◌, List, Bool, false, cond, not, ◌&&◌, ◌||◌, Option, Some, None, Result, Ok, Err, length, get_or, take, drop, leb, ltb, eqb}
 use Rattle.base.specs.Hex.{between, is_hex, hex_of, hex_number, bytes_of}
 use Rattle.base.specs.Leading.{leading}
 use Rattle.text.specs.Coding.{char_ok, ends_in_space}
@@ -9,10 +9,9 @@ use Rattle.text.specs.declared.Coding.{Coding}
 use Rattle.text.specs.declared.Coding.TheVariants.{Numeric, Alphanumeric}
 use Rattle.phrases.specs.Book.{has_book, phrase_for}
 use Rattle.phrases.specs.declared.Phrase.{Phrase}
+use Rattle.job.specs.declared.Refusal.{Refusal}
 use Rattle.job.specs.declared.Refusal.TheVariants.{Malformed, IdentityRange, IdentityReserved, UnknownKind, PartialGroup, ToneWithText, TextMissing, TextTooLong, NoPhrase, Character, TrailingSpace}
 use Rattle.job.specs.declared.Page.{Page}
-use Rattle.job.specs.declared.LineAnswer.{LineAnswer}
-use Rattle.job.specs.declared.LineAnswer.TheVariants.{Good, Faulty}
 
 -- ---- the parts of a line
 
@@ -103,47 +102,47 @@ well_formed l = head_formed l && tail_formed (kind_of l) (drop 8 l)
 -- ---- the refusals, the last in rank first
 
 -- kinds 0 to 3: a tone has no text (number 12)
-unfoldable pub tone_page_of : Page → List ℕ → LineAnswer
-tone_page_of page digits = cond (eqb (length digits) 0) (Good page) (Faulty ToneWithText)
+unfoldable pub tone_page_of : Page → List ℕ → Result Page Refusal
+tone_page_of page digits = cond (eqb (length digits) 0) (Ok page) (Err ToneWithText)
 
 -- kinds 4 and 5: no character (number 13), too many (14), one outside the kind's with its position (6), a space that ends a numeric text (7)
-unfoldable pub text_page_of : Page → List ℕ → LineAnswer
+unfoldable pub text_page_of : Page → List ℕ → Result Page Refusal
 text_page_of page bytes =
-    cond (eqb (length bytes) 0) (Faulty TextMissing)
-    (cond (ltb (longest_of page.kind) (length bytes)) (Faulty TextTooLong)
-    (cond (ltb (good_run page.kind bytes) (length bytes)) (Faulty (Character (good_run page.kind bytes + 1)))
-    (cond (ends_in_space (coding_of page.kind) bytes) (Faulty TrailingSpace)
-    (Good page))))
+    cond (eqb (length bytes) 0) (Err TextMissing)
+    (cond (ltb (longest_of page.kind) (length bytes)) (Err TextTooLong)
+    (cond (ltb (good_run page.kind bytes) (length bytes)) (Err (Character (good_run page.kind bytes + 1)))
+    (cond (ends_in_space (coding_of page.kind) bytes) (Err TrailingSpace)
+    (Ok page))))
 
 -- kinds 6 and 7: digits that make no whole groups of five (number 25), no group (13), more than 84 (14)
-unfoldable pub data_page_of : Page → List ℕ → LineAnswer
+unfoldable pub data_page_of : Page → List ℕ → Result Page Refusal
 data_page_of page digits =
-    cond (ltb 0 (length digits % 5)) (Faulty PartialGroup)
-    (cond (eqb (length digits) 0) (Faulty TextMissing)
-    (cond (ltb 84 (length digits / 5)) (Faulty TextTooLong)
-    (Good page)))
+    cond (ltb 0 (length digits % 5)) (Err PartialGroup)
+    (cond (eqb (length digits) 0) (Err TextMissing)
+    (cond (ltb 84 (length digits / 5)) (Err TextTooLong)
+    (Ok page)))
 
 -- kind 9: the phrase of the book that the digits name is the page's text; where they name none, number 18
-abbrev pub phrase_page_of : Page → Option Phrase → LineAnswer
-phrase_page_of page (Some f) = Good (record { identity = page.identity; kind = page.kind; start = f.start; length = f.length })
-phrase_page_of page None = Faulty NoPhrase
+abbrev pub phrase_page_of : Page → Option Phrase → Result Page Refusal
+phrase_page_of page (Some f) = Ok (record { identity = page.identity; kind = page.kind; start = f.start; length = f.length })
+phrase_page_of page None = Err NoPhrase
 
 -- by the kind, which is 0 to 7, or 9 where there is a book (number 4)
-unfoldable pub kind_page_of : List ℕ → Page → List ℕ → LineAnswer
+unfoldable pub kind_page_of : List ℕ → Page → List ℕ → Result Page Refusal
 kind_page_of b page digits =
     cond (between 0 3 page.kind) (tone_page_of page digits)
     (cond (between 4 5 page.kind) (text_page_of page (bytes_of digits))
     (cond (is_data page.kind) (data_page_of page digits)
     (cond (eqb page.kind 9 && has_book b) (phrase_page_of page (phrase_for b digits))
-    (Faulty UnknownKind))))
+    (Err UnknownKind))))
 
 -- the identity is at most 1FFFFF (number 2) and not reserved (number 3)
-unfoldable pub page_of : List ℕ → Page → List ℕ → LineAnswer
+unfoldable pub page_of : List ℕ → Page → List ℕ → Result Page Refusal
 page_of b page digits =
-    cond (ltb 0x1FFFFF page.identity) (Faulty IdentityRange)
-    (cond (is_reserved page.identity) (Faulty IdentityReserved)
+    cond (ltb 0x1FFFFF page.identity) (Err IdentityRange)
+    (cond (is_reserved page.identity) (Err IdentityReserved)
     (kind_page_of b page digits))
 
 -- what a line says that starts at byte `at`, with the book b
-unfoldable pub line_of : List ℕ → ℕ → List ℕ → LineAnswer
-line_of b at l = cond (well_formed l) (page_of b (page_from at l) (text_digits l)) (Faulty Malformed)
+unfoldable pub line_of : List ℕ → ℕ → List ℕ → Result Page Refusal
+line_of b at l = cond (well_formed l) (page_of b (page_from at l) (text_digits l)) (Err Malformed)

@@ -1,21 +1,20 @@
 -- The pages of a job's lines, and where in the job or in the phrase book their texts stand.
-use Rattle.std.specs.Prelude.{ℕ, ◌+◌, List, [], ◌∷◌, ◌++◌, cond, length, get_or, take, drop, eqb}
+use Rattle.std.specs.Prelude.{ℕ, ◌+◌, List, [], ◌∷◌, ◌++◌, cond, length, get_or, take, drop, eqb, Result, Ok, Err}
 use Rattle.base.specs.Lines.{Lines, behind, line, split, line_at}
 use Rattle.phrases.specs.Book.{phrase_of}
+use Rattle.job.specs.declared.Refusal.{Refusal}
 use Rattle.job.specs.Submission.{Submission, source_of}
 use Rattle.job.specs.Line.{kind_of, text_digits, kind_sent, line_of}
 use Rattle.job.specs.declared.Page.{Page}
-use Rattle.job.specs.declared.LineAnswer.{LineAnswer}
-use Rattle.job.specs.declared.LineAnswer.TheVariants.{Good, Faulty}
 
 -- what stands for a page where there is none
 abbrev pub no_page : Page
 no_page = record { identity = 0; kind = 0; start = 0; length = 0 }
 
 -- the page of a line; none where it is faulty
-abbrev pub page_in : LineAnswer → Page
-page_in (Good page) = page
-page_in (Faulty why) = no_page
+abbrev pub page_in : Result Page Refusal → Page
+page_in (Ok page) = page
+page_in (Err why) = no_page
 
 -- the pages of lines of which the first starts at byte `at`, with the book b
 unfoldable pub pages_from : List ℕ → ℕ → Lines → List Page

@@ -1,8 +1,6 @@
 -- A page line as it is printed (document 01, "Page lines"), into a lent slice that may be too short for it.
-use Rattle.std.specs.Prelude.{ℕ, ◌%◌, Bool, true, false, cond, List, [], ◌∷◌, ◌++◌, length, ltb}
+use Rattle.std.specs.Prelude.{ℕ, ◌%◌, Bool, true, false, cond, List, [], ◌∷◌, ◌++◌, length, ltb, Option, Some, None}
 use Rattle.base.specs.Hex.{digit_of, digits_of}
-use Rattle.job.specs.declared.Printing.{Printing}
-use Rattle.job.specs.declared.Printing.TheVariants.{Printed, NoRoom}
 
 -- six digits of identity, a space, a digit of kind
 abbrev pub head_of : ℕ → ℕ → List ℕ
@@ -23,19 +21,19 @@ unfoldable pub printed : ℕ → ℕ → List ℕ → Bool → List ℕ
 printed identity kind digits cut = head_of identity kind ++ (spaced digits ++ ending cut)
 
 -- printing a line into room for so many bytes: its length, or number 10
-abbrev pub printing_of : ℕ → List ℕ → Printing
-printing_of room line = cond (ltb room (length line)) NoRoom (Printed (length line))
+abbrev pub printing_of : ℕ → List ℕ → Option ℕ
+printing_of room line = cond (ltb room (length line)) None (Some (length line))
 
 -- how many bytes of the line are written: all, or none
-abbrev pub bytes_printed : Printing → ℕ
-bytes_printed (Printed n) = n
-bytes_printed NoRoom = 0
+abbrev pub bytes_printed : Option ℕ → ℕ
+bytes_printed (Some n) = n
+bytes_printed None = 0
 
 -- the number in document 01's table, 0 where the line is printed
-abbrev pub number_of : Printing → ℕ
-number_of (Printed n) = 0
-number_of NoRoom = 10
+abbrev pub number_of : Option ℕ → ℕ
+number_of (Some n) = 0
+number_of None = 10
 
 -- the place of number 10 is 0
-abbrev pub place_of : Printing → ℕ
+abbrev pub place_of : Option ℕ → ℕ
 place_of r = 0

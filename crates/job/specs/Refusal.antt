@@ -1,10 +1,9 @@
 -- The numbers and places of document 01's table and of requests R-1, R-6 and R-11, for each case of an answer.
-use Rattle.std.specs.Prelude.{ℕ, Bool, ◌||◌, eqb}
+use Rattle.std.specs.Prelude.{ℕ, Result, Bool, ◌||◌, eqb, Ok, Err}
 use Rattle.base.specs.Hex.{between}
 use Rattle.job.specs.declared.Refusal.{Refusal}
+use Rattle.job.specs.declared.Refused.{Refused}
 use Rattle.job.specs.declared.Refusal.TheVariants.{Malformed, IdentityRange, IdentityReserved, UnknownKind, PartialGroup, ToneWithText, TextMissing, TextTooLong, NoPhrase, Character, TrailingSpace, TooManyLines, EmptyJob, BadBook}
-use Rattle.job.specs.declared.JobAnswer.{JobAnswer}
-use Rattle.job.specs.declared.JobAnswer.TheVariants.{Accepted, Refused}
 
 -- the number of a refusal; a text's length can be wrong in three ways
 abbrev pub number_of : Refusal → ℕ
@@ -44,22 +43,30 @@ position_of BadBook = 0
 abbrev pub declines_job : ℕ → Bool
 declines_job n = between 1 4 n || (eqb n 25 || (between 12 14 n || (between 18 19 n || between 6 9 n)))
 
+-- the answer to a job: how many pages it has, or why it is declined and where
+abbrev pub JobAnswer : Type 0
+JobAnswer = Result ℕ Refused
+
+-- a declined one
+abbrev pub refused : Refusal → ℕ → JobAnswer
+refused why place = Err (record { why = why; place = place })
+
 -- the number of a job's answer; 0 for an accepted job
 abbrev pub job_number : JobAnswer → ℕ
-job_number (Accepted n) = 0
-job_number (Refused why place) = number_of why
+job_number (Ok n) = 0
+job_number (Err r) = number_of r.why
 
 -- how many pages an accepted job has; 0 for a refused one
 abbrev pub job_pages : JobAnswer → ℕ
-job_pages (Accepted n) = n
-job_pages (Refused why place) = 0
+job_pages (Ok n) = n
+job_pages (Err r) = 0
 
 -- the place of a job's answer; 0 for an accepted job
 abbrev pub job_place : JobAnswer → ℕ
-job_place (Accepted n) = 0
-job_place (Refused why place) = place
+job_place (Ok n) = 0
+job_place (Err r) = r.place
 
 -- its second place; 0 for an accepted job
 abbrev pub job_position : JobAnswer → ℕ
-job_position (Accepted n) = 0
-job_position (Refused why place) = position_of why
+job_position (Ok n) = 0
+job_position (Err r) = position_of r.why

@@ -2,13 +2,13 @@
 // empty book is none.
 #![tactic(auto)]
 
-ghost use Rattle.std.specs.Prelude.{◌≡◌, cond, [], ◌-◌, ◌*◌, ◌^◌, ◌≤◌, ◌<◌, length, take, drop, replicate};
+ghost use Rattle.std.specs.Prelude.{◌≡◌, cond, Err, [], ◌-◌, ◌*◌, ◌^◌, ◌≤◌, ◌<◌, length, take, drop, replicate};
 ghost use Rattle.base.specs.Hex.{is_hex, bytes_of};
 ghost use Rattle.base.specs.Leading.{leading};
 ghost use Rattle.base.specs.Lines.{split};
 ghost use Rattle.base.specs.Part.{PointsInto};
 ghost use Rattle.phrases.specs.Book.{has_book, phrase_for};
-ghost use Rattle.job.specs.Refusal.{number_of, position_of, job_number, job_place, job_position};
+ghost use Rattle.job.specs.Refusal.{number_of, position_of, refused, job_number, job_place, job_position};
 ghost use Rattle.job.specs.Line.{is_data, is_reserved, longest_of, coding_of, kind_sent, function_of, good_run, Counted, is_digits, is_pairs, head_formed, text_formed, tail_formed, tone_page_of, text_page_of, data_page_of, phrase_page_of, kind_page_of, page_of, line_of};
 ghost use Rattle.job.specs.Message.{group_from, count_from};
 ghost use Rattle.job.specs.Submission.{with_book, source_of};
@@ -17,12 +17,11 @@ ghost use Rattle.base.specs.Lists.{over, tab};
 ghost use Rattle.job.specs.Print.{head_of, spaced, ending, printed, printing_of, bytes_printed};
 ghost use Rattle.job.specs.Job.{judge, table_of, answer_with, reading_of};
 ghost use Rattle.job.specs.declared.Refusal.TheVariants.{Malformed, UnknownKind};
-ghost use Rattle.job.specs.declared.LineAnswer.TheVariants.{Faulty};
 
 use text::Coding;
 
 // Why a job is declined: a line's refusals in the order of their rank, then the two of the whole job, then its book's.
-#[derive(Clone, Copy)]
+#[derive(Clone, Copy, PartialEq, Eq)]
 pub enum Refusal {
     Malformed,
     IdentityRange,
@@ -43,6 +42,7 @@ pub enum Refusal {
 
 // A page: its identity, its kind, the byte at which the digits of its text start, of the book where the kind is 9, else of the job, and
 // how many they are. No byte of it is unused, so that an array of them is cleared at once.
+// The kind stays a number: the contracts of `function`, `groups` and `write_groups` take every u32.
 #[derive(Clone, Copy)]
 pub struct Page {
     pub identity: u32,
@@ -51,29 +51,22 @@ pub struct Page {
     pub length: usize,
 }
 
-// What a page line says.
-#[derive(Clone, Copy)]
-enum LineAnswer {
-    Good(Page),
-    Faulty(Refusal),
+// Why a job is declined, and where: the place is a line of the job, or of a bad book, counted from 1; 0 for the job as a whole.
+#[derive(Clone, Copy, PartialEq, Eq)]
+pub struct Refused {
+    pub why: Refusal,
+    pub place: usize,
 }
 
-#[derive(Clone, Copy)]
-pub enum JobAnswer {
-    // The number of pages.
-    Accepted(usize),
-    // The place is a line of the job, or of a bad book, counted from 1; 0 for the job as a whole.
-    Refused { why: Refusal, place: usize },
-}
-
-// A job's answer, and the pages of an accepted one. Zeros stand behind the last page, and everywhere where the job is refused.
+// A job's answer, the number of its pages or its refusal, and the pages of an accepted one. Zeros stand behind the last page, and
+// everywhere where the job is refused.
 #[derive(Clone, Copy)]
 pub struct Pages {
-    pub answer: JobAnswer,
+    pub answer: Result<usize, Refused>,
     pub pages: [Page; 48],
 }
 
-// The number of a refusal.
+// The number of a refusal in the table, whose numbers the C interface answers with.
 fn refusal_number(why: Refusal) -> u32
     ensures { result ≡ number_of why }
 {
@@ -96,22 +89,22 @@ fn refusal_number(why: Refusal) -> u32
 }
 
 // The number of a job's answer in the table; 0 where the job is accepted.
-pub fn number(a: JobAnswer) -> u32
+pub fn number(a: Result<usize, Refused>) -> u32
     ensures { result ≡ job_number a }
 {
     match a {
-        JobAnswer::Accepted(_) => 0,
-        JobAnswer::Refused { why, place: _ } => refusal_number(why),
+        Ok(_) => 0,
+        Err(refusal) => refusal_number(refusal.why),
     }
 }
 
 // The place of a job's answer; 0 where the job is accepted.
-pub fn place(a: JobAnswer) -> usize
+pub fn place(a: Result<usize, Refused>) -> usize
     ensures { result ≡ job_place a }
 {
     match a {
-        JobAnswer::Accepted(_) => 0,
-        JobAnswer::Refused { why: _, place } => place,
+        Ok(_) => 0,
+        Err(refusal) => refusal.place,
     }
 }
 
@@ -120,30 +113,18 @@ fn refusal_position(why: Refusal) -> usize
     ensures { result ≡ position_of why }
 {
     match why {
-        Refusal::Malformed => 0,
-        Refusal::IdentityRange => 0,
-        Refusal::IdentityReserved => 0,
-        Refusal::UnknownKind => 0,
-        Refusal::PartialGroup => 0,
-        Refusal::ToneWithText => 0,
-        Refusal::TextMissing => 0,
-        Refusal::TextTooLong => 0,
-        Refusal::NoPhrase => 0,
         Refusal::Character(position) => position,
-        Refusal::TrailingSpace => 0,
-        Refusal::TooManyLines => 0,
-        Refusal::EmptyJob => 0,
-        Refusal::BadBook => 0,
+        _ => 0,
     }
 }
 
 // The second place of a job's answer; 0 where the job is accepted.
-pub fn position(a: JobAnswer) -> usize
+pub fn position(a: Result<usize, Refused>) -> usize
     ensures { result ≡ job_position a }
 {
     match a {
-        JobAnswer::Accepted(_) => 0,
-        JobAnswer::Refused { why, place: _ } => refusal_position(why),
+        Ok(_) => 0,
+        Err(refusal) => refusal_position(refusal.why),
     }
 }
 
@@ -151,11 +132,7 @@ pub fn position(a: JobAnswer) -> usize
 fn is_digits(t: &[u8]) -> bool
     ensures { result ≡ is_digits t.now }
 {
-    let n = t.len();
-    if n == 0 {
-        return false;
-    }
-    base::hex_run(t) == n
+    !t.is_empty() && base::hex_run(t) == t.len()
 }
 
 // Whether a text is one or more pairs of hexadecimal digits, of which so many at its front are known to be.
@@ -168,12 +145,11 @@ fn is_pairs(t: &[u8], known: usize) -> bool
     if n == 0 {
         return false;
     }
-    if n % 2 == 0 {
-        let digits = 2 * known;
-        digits + base::hex_run(&t[digits..]) == n
-    } else {
-        false
+    if n % 2 != 0 {
+        return false;
     }
+    let digits = 2 * known;
+    digits + base::hex_run(&t[digits..]) == n
 }
 
 // Whether a line begins with six digits of identity, a space and a digit of kind.
@@ -196,11 +172,7 @@ fn head_formed(line: &[u8]) -> bool
 pub fn is_reserved(identity: u32) -> bool
     ensures { result ≡ is_reserved identity }
 {
-    let upper = identity / 8;
-    match upper {
-        250958 | 255632 => true,
-        _ => false,
-    }
+    matches!(identity / 8, 250958 | 255632)
 }
 
 // The most characters of a kind's text.
@@ -242,10 +214,7 @@ pub fn function(kind: u32) -> u32
 fn is_data(kind: u32) -> bool
     ensures { result ≡ is_data kind }
 {
-    match kind {
-        6 | 7 => true,
-        _ => false,
-    }
+    matches!(kind, 6 | 7)
 }
 
 // How many groups a text of so many digits takes.
@@ -253,7 +222,7 @@ pub fn groups(kind: u32, length: u16) -> usize
     ensures { result ≡ count_from (kind_sent kind) length }
 {
     if is_data(kind) {
-        return (length / 5) as usize;
+        return usize::from(length / 5);
     }
     text::groups(coding(kind), length / 2)
 }
@@ -270,66 +239,64 @@ pub fn write_groups(kind: u32, digits: &[u8], groups: &mut [u32])
 }
 
 // A tone, or number 12.
-fn judge_tone(page: Page, text: &[u8]) -> LineAnswer
+fn judge_tone(page: Page, text: &[u8]) -> Result<Page, Refusal>
     ensures { result ≡ tone_page_of page text.now }
 {
-    if text.len() == 0 {
-        LineAnswer::Good(page)
-    } else {
-        LineAnswer::Faulty(Refusal::ToneWithText)
+    if !text.is_empty() {
+        return Err(Refusal::ToneWithText);
     }
+    Ok(page)
 }
 
 // A page with a text, or the first of numbers 13, 14, 6 and 7. The caller has counted the kind's characters at the text's front.
-fn judge_text(page: Page, text: &[u8], good: usize) -> LineAnswer
+fn judge_text(page: Page, text: &[u8], good: usize) -> Result<Page, Refusal>
     requires { good ≡ good_run page.kind (bytes_of text.now) }
     ensures { result ≡ text_page_of page (bytes_of text.now) }
 {
     let kind = page.kind;
     let n = text.len() / 2;
     if n == 0 {
-        return LineAnswer::Faulty(Refusal::TextMissing);
+        return Err(Refusal::TextMissing);
     }
     if longest(kind) < n {
-        return LineAnswer::Faulty(Refusal::TextTooLong);
+        return Err(Refusal::TextTooLong);
     }
     if good < n {
-        let position = good + 1;
-        return LineAnswer::Faulty(Refusal::Character(position));
+        return Err(Refusal::Character(good + 1));
     }
     if text::ends_in_space(coding(kind), text) {
-        return LineAnswer::Faulty(Refusal::TrailingSpace);
+        return Err(Refusal::TrailingSpace);
     }
-    LineAnswer::Good(page)
+    Ok(page)
 }
 
 // A page of data, or the first of numbers 25, 13 and 14.
-fn judge_data(page: Page, digits: &[u8]) -> LineAnswer
+fn judge_data(page: Page, digits: &[u8]) -> Result<Page, Refusal>
     ensures { result ≡ data_page_of page digits.now }
 {
     let n = digits.len();
     if n % 5 != 0 {
-        return LineAnswer::Faulty(Refusal::PartialGroup);
+        return Err(Refusal::PartialGroup);
     }
     if n == 0 {
-        return LineAnswer::Faulty(Refusal::TextMissing);
+        return Err(Refusal::TextMissing);
     }
     if 84 < n / 5 {
-        return LineAnswer::Faulty(Refusal::TextTooLong);
+        return Err(Refusal::TextTooLong);
     }
-    LineAnswer::Good(page)
+    Ok(page)
 }
 
 // A page with a phrase of the book, or number 18; without a book, number 4.
-fn judge_phrase(page: Page, digits: &[u8], book: &[u8]) -> LineAnswer
-    ensures { result ≡ cond (has_book book.now) (phrase_page_of page (phrase_for book.now digits.now)) (Faulty UnknownKind) }
+fn judge_phrase(page: Page, digits: &[u8], book: &[u8]) -> Result<Page, Refusal>
+    ensures { result ≡ cond (has_book book.now) (phrase_page_of page (phrase_for book.now digits.now)) (Err UnknownKind) }
 {
-    if book.len() == 0 {
-        return LineAnswer::Faulty(Refusal::UnknownKind);
+    if book.is_empty() {
+        return Err(Refusal::UnknownKind);
     }
     match phrases::find_phrase(book, digits) {
-        None => LineAnswer::Faulty(Refusal::NoPhrase),
-        Some(phrase) => LineAnswer::Good(Page {
+        None => Err(Refusal::NoPhrase),
+        Some(phrase) => Ok(Page {
             start: phrase.start,
             length: phrase.length,
             ..page
@@ -338,7 +305,7 @@ fn judge_phrase(page: Page, digits: &[u8], book: &[u8]) -> LineAnswer
 }
 
 // The page by its kind, or number 4 or its text's refusal.
-fn judge_kind(page: Page, text: &[u8], good: usize, book: &[u8]) -> LineAnswer
+fn judge_kind(page: Page, text: &[u8], good: usize, book: &[u8]) -> Result<Page, Refusal>
     requires { Counted page.kind text.now good }
     ensures { result ≡ kind_page_of book.now page text.now }
 {
@@ -348,88 +315,80 @@ fn judge_kind(page: Page, text: &[u8], good: usize, book: &[u8]) -> LineAnswer
         4 | 5 => judge_text(page, text, good),
         6 | 7 => judge_data(page, text),
         9 => judge_phrase(page, text, book),
-        _ => LineAnswer::Faulty(Refusal::UnknownKind),
+        _ => Err(Refusal::UnknownKind),
     }
 }
 
 // The page of a well-formed line, or its first refusal.
 #[tactic(auto, using(crate::proofs::Decided::identity_high))]
-fn judge_page(page: Page, text: &[u8], good: usize, book: &[u8]) -> LineAnswer
+fn judge_page(page: Page, text: &[u8], good: usize, book: &[u8]) -> Result<Page, Refusal>
     requires { Counted page.kind text.now good }
     ensures { result ≡ page_of book.now page text.now }
 {
     let identity = page.identity;
     if 0x1FFFFF < identity {
-        return LineAnswer::Faulty(Refusal::IdentityRange);
+        return Err(Refusal::IdentityRange);
     }
     if is_reserved(identity) {
-        return LineAnswer::Faulty(Refusal::IdentityReserved);
+        return Err(Refusal::IdentityReserved);
     }
     judge_kind(page, text, good, book)
 }
 
 // The page of what must be pairs, or its first refusal. A text is passed over once: digits and characters together up to the first bad
 // character, and only digits behind it.
-fn judge_pairs(page: Page, text: &[u8], book: &[u8]) -> LineAnswer
-    ensures { result ≡ cond (is_pairs text.now) (page_of book.now page text.now) (Faulty Malformed) }
+fn judge_pairs(page: Page, text: &[u8], book: &[u8]) -> Result<Page, Refusal>
+    ensures { result ≡ cond (is_pairs text.now) (page_of book.now page text.now) (Err Malformed) }
 {
     let kind = page.kind;
     let good = text::char_run(coding(kind), text);
     if is_pairs(text, good) {
         return judge_page(page, text, good, book);
     }
-    LineAnswer::Faulty(Refusal::Malformed)
+    Err(Refusal::Malformed)
 }
 
 // The page of a text, which must be pairs, or digits where it is data; or its first refusal.
-fn judge_digits(page: Page, text: &[u8], book: &[u8]) -> LineAnswer
-    ensures { result ≡ cond (text_formed page.kind text.now) (page_of book.now page text.now) (Faulty Malformed) }
+fn judge_digits(page: Page, text: &[u8], book: &[u8]) -> Result<Page, Refusal>
+    ensures { result ≡ cond (text_formed page.kind text.now) (page_of book.now page text.now) (Err Malformed) }
 {
     let kind = page.kind;
     if !is_data(kind) {
         return judge_pairs(page, text, book);
     }
     if !is_digits(text) {
-        return LineAnswer::Faulty(Refusal::Malformed);
+        return Err(Refusal::Malformed);
     }
     judge_page(page, text, 0, book)
 }
 
 // The page by what stands behind its kind, which must be nothing, or a space and a text; or its first refusal.
-fn judge_tail(page: Page, t: &[u8], book: &[u8]) -> LineAnswer
-    ensures { result ≡ cond (tail_formed page.kind t.now) (page_of book.now page (drop 1 t.now)) (Faulty Malformed) }
+fn judge_tail(page: Page, t: &[u8], book: &[u8]) -> Result<Page, Refusal>
+    ensures { result ≡ cond (tail_formed page.kind t.now) (page_of book.now page (drop 1 t.now)) (Err Malformed) }
 {
-    if t.len() == 0 {
-        return judge_page(page, t, 0, book);
+    match t {
+        [] => judge_page(page, t, 0, book),
+        [b' ', text @ ..] => judge_digits(page, text, book),
+        _ => Err(Refusal::Malformed),
     }
-    if t[0] != b' ' {
-        return LineAnswer::Faulty(Refusal::Malformed);
-    }
-    judge_digits(page, &t[1..], book)
-}
-
-// How many digits of text a line of n bytes has, behind six digits, a space, a digit and a space.
-fn text_length(n: usize) -> usize
-    ensures { result ≡ n - 9 }
-{
-    if n < 9 { 0 } else { n - 9 }
 }
 
 // What a line, without its newline, says; it starts at this byte of the job.
-fn read_line(line: &[u8], at: usize, book: &[u8]) -> LineAnswer
+fn read_line(line: &[u8], at: usize, book: &[u8]) -> Result<Page, Refusal>
     requires { at < 2 ^ 63 }
     ensures { result ≡ line_of book.now at line.now }
 {
     if !head_formed(line) {
-        return LineAnswer::Faulty(Refusal::Malformed);
+        return Err(Refusal::Malformed);
     }
     let identity = base::hex_number(&line[..6]);
-    let kind = base::hex_value(line[7]) as u32;
+    let kind = u32::from(base::hex_value(line[7]));
     let page = Page {
-        identity: identity,
-        kind: kind,
+        identity,
+        kind,
+        // Its text's digits stand behind six digits, a space, a digit and a space.
         start: at + 9,
-        length: text_length(line.len()),
+        length: line.len().saturating_sub(9),
     };
     judge_tail(page, &line[8..], book)
 }
@@ -448,14 +407,11 @@ fn no_pages() -> [Page; 48]
 }
 
 // A refused job: no page is kept.
-fn refused(why: Refusal, place: usize) -> Pages
-    ensures { result ≡ table_of (JobAnswer.Refused why place) [] }
+fn declined(why: Refusal, place: usize) -> Pages
+    ensures { result ≡ table_of (refused why place) [] }
 {
     Pages {
-        answer: JobAnswer::Refused {
-            why: why,
-            place: place,
-        },
+        answer: Err(Refused { why, place }),
         pages: no_pages(),
     }
 }
@@ -470,24 +426,22 @@ fn read_lines(job: &[u8], book: &[u8]) -> Pages
     let mut k = 0;
     while at < job.len() {
         if 48 <= k {
-            return refused(Refusal::TooManyLines, 49);
+            return declined(Refusal::TooManyLines, 49);
         }
         let end = base::line_end(job, at);
         if job.len() <= end {
-            return refused(Refusal::Malformed, k + 1);
+            return declined(Refusal::Malformed, k + 1);
         }
         match read_line(&job[at..end], at, book) {
-            LineAnswer::Faulty(why) => return refused(why, k + 1),
-            LineAnswer::Good(page) => {
-                pages[k] = page;
-                at = end + 1;
-                k += 1;
-            }
+            Ok(page) => pages[k] = page,
+            Err(why) => return declined(why, k + 1),
         }
+        at = end + 1;
+        k += 1;
     }
     Pages {
-        answer: JobAnswer::Accepted(k),
-        pages: pages,
+        answer: Ok(k),
+        pages,
     }
 }
 
@@ -496,10 +450,10 @@ pub fn read_job(job: &[u8], book: &[u8]) -> Pages
     ensures { result ≡ reading_of (with_book job.now book.now) }
 {
     if let Some(fault) = phrases::book_fault(book) {
-        return refused(Refusal::BadBook, fault);
+        return declined(Refusal::BadBook, fault);
     }
-    if job.len() == 0 {
-        return refused(Refusal::EmptyJob, 0);
+    if job.is_empty() {
+        return declined(Refusal::EmptyJob, 0);
     }
     read_lines(job, book)
 }
@@ -515,36 +469,34 @@ pub fn page_text<'a>(job: &'a [u8], book: &'a [u8], page: Page) -> &'a [u8]
     base::part(job, page.start, page.length)
 }
 
-// What printing a page line answers.
-#[derive(Clone, Copy)]
-pub enum Printing {
-    // The line's length in bytes.
-    Printed(usize),
-    // The lent slice is shorter than the line: number 10.
-    NoRoom,
-}
-
 // Prints the line of a page whose text is written in these digits, `-` before its newline where it was cut short, over the front
-// of the slice. Only the low six digits of the identity and the low digit of the kind are printed.
-pub fn print_line(out: &mut [u8], identity: u32, kind: u8, digits: &[u8], cut: bool) -> Printing
+// of the slice. Answers its length in bytes; nothing, which is number 10, where the slice is shorter. Only the low six digits of the
+// identity and the low digit of the kind are printed.
+pub fn print_line(
+    out: &mut [u8],
+    identity: u32,
+    kind: u8,
+    digits: &[u8],
+    cut: bool,
+) -> Option<usize>
     ensures value { result ≡ printing_of (length out.old) (printed identity kind digits.now cut) }
     ensures out_after { out.new ≡ over out.old (take (bytes_printed result) (printed identity kind digits.now cut)) }
 {
     let end = 8 + spaced_length(digits);
     let n = end + ending_length(cut);
     if out.len() < n {
-        return Printing::NoRoom;
+        return None;
     }
     print_head(out, identity, kind);
     print_text(&mut out[8..], digits);
     print_ending(&mut out[end..], cut);
-    Printing::Printed(n)
+    Some(n)
 }
 
 fn spaced_length(digits: &[u8]) -> usize
     ensures { result ≡ length (spaced digits.now) }
 {
-    if digits.len() == 0 {
+    if digits.is_empty() {
         0
     } else {
         digits.len() + 1
@@ -564,7 +516,7 @@ fn print_head(out: &mut [u8], identity: u32, kind: u8)
 {
     base::write_digits(&mut out[..6], identity);
     out[6] = b' ';
-    out[7] = base::hex_digit(kind as u32);
+    out[7] = base::hex_digit(u32::from(kind));
 }
 
 // The text's digits behind a space, over the front of the slice; nothing where there are none.
@@ -572,12 +524,11 @@ fn print_text(out: &mut [u8], digits: &[u8])
     requires { length (spaced digits.now) ≤ length out.old }
     ensures { out.new ≡ over out.old (spaced digits.now) }
 {
-    if digits.len() == 0 {
+    if digits.is_empty() {
         return;
     }
     out[0] = b' ';
-    let end = digits.len() + 1;
-    out[1..end].copy_from_slice(digits);
+    out[1..=digits.len()].copy_from_slice(digits);
 }
 
 // The end of the line, over the front of the slice.
@@ -586,8 +537,7 @@ fn print_ending(out: &mut [u8], cut: bool)
     ensures { out.new ≡ over out.old (ending cut) }
 {
     if cut {
-        out[0] = b'-';
-        out[1] = b'\n';
+        out[..2].copy_from_slice(b"-\n");
     } else {
         out[0] = b'\n';
     }

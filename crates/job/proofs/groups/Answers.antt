@@ -8,7 +8,7 @@ use Rattle.job.proofs.Message.{data_sent, coding_sent, count_data, count_text}
 use Rattle.job.proofs.groups.Goals as goal
 
 pub returns-then-is_data : goal.returns-then-is_data
-returns-then-is_data c = let a = c.args in sym (count_data (kind_sent a.kind) a.length (data_sent a.kind ∙ sym c.is_data.ensures ∙ c.if-is_data.true))
+returns-then-is_data c = let a = c.args in c.from.ensures ∙ sym (count_data (kind_sent a.kind) a.length (data_sent a.kind ∙ sym c.is_data.ensures ∙ c.if-is_data.true))
 
 pub returns : goal.returns
 returns c =

@@ -1,12 +1,12 @@
 -- `job::is_digits` meets its contract. Assumes nothing.
-use borrow.Author.Tests.{eq-eqb, ne_eqb}
+use mathlib.Core.Path.{sym}
 use Rattle.job.specs.Line.{is_digits}
 use Rattle.job.proofs.is_digits.Goals as goal
 
-pub returns-then-n-eq0 : goal.returns-then-n-eq0
+pub returns-then-not-is_empty : goal.returns-then-not-is_empty
 unfolding is_digits
-returns-then-n-eq0 c = simp (eq-eqb _ _ c.if-n-eq0.true)
+returns-then-not-is_empty c = rw c.hex_run.ensures (simp (sym c.if-not-is_empty.ensures))
 
-pub returns : goal.returns
+pub returns-else-not-is_empty : goal.returns-else-not-is_empty
 unfolding is_digits
-returns c = rw c.hex_run.ensures (simp (ne_eqb _ _ c.if-n-eq0.false))
+returns-else-not-is_empty c = simp (sym c.if-not-is_empty.ensures, c.if-not-is_empty.false)

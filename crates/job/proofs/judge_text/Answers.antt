@@ -4,13 +4,13 @@ use mathlib.Core.Path.{◌≡◌, sym, ap, ◌∙◌}
 use native.Mathlib.Omega.{arith}
 use borrow.Author.Tests.{lt-ltb, le-ltb, eq-eqb, ne_eqb}
 use lib.ListN.{length}
+use Rattle.std.specs.Prelude.{Err}
 use Rattle.base.specs.Hex.{bytes_of}
 use Rattle.base.proofs.HexLaws.{bytes_length}
 use Rattle.text.specs.Coding.{ends_in_space}
 use Rattle.text.specs.declared.Coding.{Coding}
 use Rattle.job.specs.Line.{longest_of, coding_of, good_run, text_page_of}
 use Rattle.job.specs.declared.Refusal.TheVariants.{Character}
-use Rattle.job.specs.declared.LineAnswer.TheVariants.{Faulty}
 use Rattle.job.proofs.judge_text.Goals.{After-ends_in_space}
 use Rattle.job.proofs.judge_text.Goals as goal
 
@@ -37,7 +37,7 @@ returns-then-good-n c =
     let b = bytes_of a.text.now in
     let n = bytes_length a.text.now in
     simp (ne_eqb (length b) 0 (λ e. c.if-n-eq0.false (sym n ∙ e)), le-ltb (longest_of a.page.kind) (length b) (omega arith), lt-ltb (good_run a.page.kind b) (length b) (omega arith))
-    (ap (λ (x : ℕ). Faulty (Character (x + 1))) c.requires)
+    (ap (λ (x : ℕ). Err (Character (x + 1))) c.requires)
 
 pub returns-then-ends_in_space : goal.returns-then-ends_in_space
 unfolding text_page_of

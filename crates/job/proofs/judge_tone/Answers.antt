@@ -1,12 +1,12 @@
 -- `job::judge_tone` meets its contract. Assumes nothing.
-use borrow.Author.Tests.{eq-eqb, ne_eqb}
+use mathlib.Core.Path.{sym}
 use Rattle.job.specs.Line.{tone_page_of}
 use Rattle.job.proofs.judge_tone.Goals as goal
 
-pub returns-then-text-eq0 : goal.returns-then-text-eq0
+pub returns-then-not-is_empty : goal.returns-then-not-is_empty
 unfolding tone_page_of
-returns-then-text-eq0 c = simp (eq-eqb _ _ c.if-text-eq0.true)
+returns-then-not-is_empty c = simp (sym c.if-not-is_empty.ensures)
 
-pub returns-else-text-eq0 : goal.returns-else-text-eq0
+pub returns : goal.returns
 unfolding tone_page_of
-returns-else-text-eq0 c = simp (ne_eqb _ _ c.if-text-eq0.false)
+returns c = simp (sym c.if-not-is_empty.ensures)

@@ -14,4 +14,4 @@ returns-in-0-to-3 c = simp (le-leb c.args.kind 3 (omega arith))
 
 pub returns-in_default : goal.returns-in_default
 unfolding longest_of
-returns-in_default c = let k = c.args.kind in simp (lt-leb k 3 (omega arith), ne_eqb k 4 c.in_default.in_default-own.rest.1)
+returns-in_default c = let k = c.args.kind in simp (lt-leb k 3 (omega arith), ne_eqb k 4 (λ e. omega arith))

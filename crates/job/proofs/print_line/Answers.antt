@@ -6,10 +6,10 @@ use native.Mathlib.Omega.{arith}
 use lib.ListN.{length, length-append}
 use lib.Seq.{take_all}
 use borrow.Author.Tests.{lt-ltb, le-ltb}
+use Rattle.std.specs.Prelude.{Some}
 use Rattle.base.specs.Lists.{over}
 use Rattle.base.proofs.ListLaws.{over_behind, over_length}
 use Rattle.job.specs.Print.{head_of, spaced, ending, printed}
-use Rattle.job.specs.declared.Printing.TheVariants.{Printed}
 use Rattle.job.proofs.PrintLaws.{spaced_few, ending_few, head_length, printed_length, whole}
 use Rattle.job.proofs.print_line.Goals as goal
 
@@ -53,6 +53,6 @@ returns c =
     (omega (arith, ap length second, over_length old (head ++ text) (omega arith))) c.print_ending.ensures in
     let all = take_all (8 + c.spaced_length-end.result + c.ending_length.result) (printed a.identity a.kind a.digits.now a.cut) (omega arith) in
     record {
-      value = rw (fits, n) (ap Printed (omega arith));
+      value = rw (fits, n) (ap Some (omega arith));
       out_after = third ∙ ap (over old) (whole a.identity a.kind a.digits.now a.cut ∙ sym all);
     }

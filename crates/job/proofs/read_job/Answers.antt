@@ -1,8 +1,7 @@
 -- `job::read_job` meets its contract. Assumes nothing.
 use mathlib.Core.Path.{◌≡◌, sym, ◌∙◌}
 use native.Mathlib.Omega.{arith}
-use borrow.Author.Tests.{eq-eqb, ne_eqb, lt-ltb, le-ltb}
-use lib.ListN.{length}
+use borrow.Author.Tests.{lt-ltb, le-ltb}
 use Rattle.phrases.specs.Book.{book_fault}
 use Rattle.phrases.proofs.Phrases.{sound_of, fault_of}
 use Rattle.job.specs.Job.{job_of, answer_with, reading_of}
@@ -13,18 +12,18 @@ unfolding reading_of answer_with job_of
 returns-in-Some c =
     let b = c.args.book.now in
     let f = fault_of b (sym c.in-Some.is ∙ c.book_fault.ensures) in
-    rw (c.refused.ensures, ← f.0) (simp (lt-ltb 0 (book_fault b) (omega arith)))
+    rw (c.declined.ensures, ← f.0) (simp (lt-ltb 0 (book_fault b) (omega arith)))
 
-pub returns-then-job-eq0 : goal.returns-then-job-eq0
+pub returns-then-is_empty : goal.returns-then-is_empty
 unfolding reading_of answer_with job_of
-returns-then-job-eq0 c =
+returns-then-is_empty c =
     let a = c.args in
     let good : book_fault a.book.now ≡ 0 = sound_of a.book.now (sym c.in_default.is ∙ c.book_fault.ensures) in
-    c.refused-then-job-eq0.ensures ∙ simp (le-ltb 0 (book_fault a.book.now) (omega arith), eq-eqb (length a.job.now) 0 c.if-job-eq0.true)
+    c.declined-then-is_empty.ensures ∙ simp (le-ltb 0 (book_fault a.book.now) (omega arith), sym c.if-is_empty.ensures)
 
 pub returns : goal.returns
 unfolding reading_of job_of
 returns c =
     let a = c.args in
     let good : book_fault a.book.now ≡ 0 = sound_of a.book.now (sym c.in_default.is ∙ c.book_fault.ensures) in
-    c.read_lines.ensures ∙ simp (le-ltb 0 (book_fault a.book.now) (omega arith), ne_eqb (length a.job.now) 0 c.if-job-eq0.false)
+    c.read_lines.ensures ∙ simp (le-ltb 0 (book_fault a.book.now) (omega arith), sym c.if-is_empty.ensures)

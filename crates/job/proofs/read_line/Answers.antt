@@ -46,4 +46,4 @@ returns c =
     let a = c.args in
     let l = a.line.now in
     let formed = (goal.at.returns c).Else-not-head_formed in
-    rw (c.judge_tail.ensures, number (goal.at.returns c).After-hex_number-identity (long formed), c.hex_value-kind.ensures, c.text_length.ensures, to_end 8 l, drop-drop 1 8 l, head formed)
+    rw (c.judge_tail.ensures, number (goal.at.returns c).After-hex_number-identity (long formed), c.from-kind.ensures, c.hex_value.ensures, c.saturating_sub.ensures, to_end 8 l, drop-drop 1 8 l, head formed)

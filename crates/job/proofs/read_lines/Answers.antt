@@ -22,7 +22,7 @@ returns-then-job-end c =
     let b = a.book.now in
     let job = a.job.now in
     let q = c.line_end-end.ensures in
-    c.refused-then-job-end.ensures
+    c.declined-then-job-end.ensures
     ∙ answer_refused _ (pages_of (with_book job b)) (c.loop-at.invariant.answer ∙ judge_unended b job c.loop-at.at c.loop-at.k (omega arith) (omega arith) (omega arith))
 
 pub slice_bounds-read_line-count : goal.slice_bounds-read_line-count
@@ -31,14 +31,14 @@ slice_bounds-read_line-count c = omega (arith, ended (goal.at.slice_bounds-read_
 pub slice_bounds-read_line-start : goal.slice_bounds-read_line-start
 slice_bounds-read_line-start c = omega (arith, ended (goal.at.slice_bounds-read_line-start c).After-line_end-end)
 
-pub returns-in-Faulty : goal.returns-in-Faulty
-returns-in-Faulty c =
+pub returns-in-Err : goal.returns-in-Err
+returns-in-Err c =
     let a = c.args in
     let b = a.book.now in
     let job = a.job.now in
-    c.refused-in-Faulty.ensures
+    c.declined-in-Err.ensures
     ∙ answer_refused _ (pages_of (with_book job b)) (c.loop-at.invariant.answer ∙ judge_line b job c.loop-at.at c.loop-at.k c.line_end-end.ensures (omega arith) (omega arith)
-    (sym c.in-Faulty.is ∙ c.read_line.ensures))
+    (sym c.in-Err.is ∙ c.read_line.ensures))
 
 pub loop-at-smaller : goal.loop-at-smaller
 loop-at-smaller c = omega (arith, ended (goal.at.loop-at-smaller c).After-line_end-end)
@@ -49,7 +49,7 @@ loop-at-preserved c =
     let b = a.book.now in
     let job = a.job.now in
     keeping_more b job c.loop-at.at c.loop-at.k c.loop-at.invariant c.line_end-end.ensures (omega arith) (omega arith)
-    (sym c.read_line.ensures ∙ c.in-Good.is)
+    (sym c.read_line.ensures ∙ c.in-Ok.is)
 
 pub returns : goal.returns
 returns c =
