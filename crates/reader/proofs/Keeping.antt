@@ -3,6 +3,7 @@ use mathlib.Core.Path.{◌≡◌, refl, sym, ap, ap₂, ◌∙◌}
 use mathlib.Core.Bool.{Bool, true, false}
 use mathlib.Core.List.{List, [], ◌∷◌, ◌++◌, map-append}
 use mathlib.Core.Option.{Option, none, some}
+use Rattle.std.specs.Prelude.{Option as Slot, None, Some}
 use Prim.Native.Nat.{ℕ, suc, ◌+◌, ◌-◌, ◌*◌, ◌/◌, ◌%◌, ◌^◌, ◌≤◌, ◌<◌}
 use native.Mathlib.Numerals.{add-one}
 use native.Mathlib.Omega.{arith}
@@ -27,19 +28,22 @@ use Rattle.reader.proofs.SymbolLaws.{said_message, said_address}
 none_some : {A : Type 0} {x : A} → none ≡ some x → ⊥
 none_some e = let z : ◌≡◌ {A = ℕ} 0 1 = cc in omega arith
 
+shut_open : {a : ℕ} → ◌≡◌ {A = Slot ℕ} None (Some a) → ⊥
+shut_open e = let z : ◌≡◌ {A = ℕ} 0 1 = cc in omega arith
+
 -- where no page is open
-pub record Shut (s n pages bytes : ℕ) : Type 0 where
-  pub none_open : n ≡ 0
-  pub pages_few : pages ≤ s
-  pub bytes_few : bytes ≤ 11 * s
+pub record Shut (s : ℕ) (p : Progress) : Type 0 where
+  pub none_open : p.held ≡ None
+  pub pages_few : p.pages ≤ s
+  pub bytes_few : p.bytes ≤ 11 * s
 
 -- where one is, its address is in slot a
-pub record Open (symbols : List ℕ) (s a pages bytes : ℕ) (o : Option Hearing) : Type 0 where
+pub record Open (symbols : List ℕ) (s a : ℕ) (p : Progress) (o : Option Hearing) : Type 0 where
   pub behind : a < s
   pub address : get_or symbols a 0 < 2 ^ 20
   pub is : o ≡ some (page_in symbols a s)
-  pub pages_few : pages ≤ a
-  pub bytes_few : bytes ≤ 11 * a
+  pub pages_few : p.pages ≤ a
+  pub bytes_few : p.bytes ≤ 11 * a
 
 -- ---- closing the open page
 
@@ -52,26 +56,27 @@ unfolding close
 close_page cut hs h e = rw e
 
 module _ (symbols : List ℕ) (s : ℕ) where
-  shut : {n pages bytes : ℕ} {o : Option Hearing} → o ≡ none → Held symbols s n pages bytes o → Shut s n pages bytes
-  shut e (nothing z h p b) = record { none_open = z; pages_few = p; bytes_few = b }
-  shut e (page a z h l x p b) = absurd (none_some (sym e ∙ h))
+  shut : {p : Progress} {o : Option Hearing} → o ≡ none → Held symbols s p o → Shut s p
+  shut e (nothing z h n b) = record { none_open = z; pages_few = n; bytes_few = b }
+  shut e (page a z h l x n b) = absurd (none_some (sym e ∙ h))
 
-  open_at : {n pages bytes : ℕ} {o : Option Hearing} → (n ≡ 0 → ⊥) → Held symbols s n pages bytes o → Open symbols s (n - 1) pages bytes o
-  open_at one (nothing z h p b) = absurd (one z)
-  open_at {n} one (page a z h l x p b) =
-      let e : n - 1 ≡ a = omega arith in
-      rw e (record { behind = l; address = x; is = h; pages_few = p; bytes_few = b })
+  open_at : {p : Progress} {o : Option Hearing} (a : ℕ) → p.held ≡ Some a → Held symbols s p o → Open symbols s a p o
+  open_at a one (nothing z h n b) = absurd (shut_open (sym z ∙ one))
+  open_at a one (page i z h l x n b) =
+      let same : ◌≡◌ {A = Slot ℕ} (Some a) (Some i) = sym one ∙ z in
+      let e : a ≡ i = cc in
+      rw e (record { behind = l; address = x; is = h; pages_few = n; bytes_few = b })
 
   module _ (st : State) (p : Progress) {lines : List ℕ} (k : Kept symbols s st p lines) where
-    pub open_page : (p.held ≡ 0 → ⊥) → Open symbols s (p.held - 1) p.pages p.bytes st.held
-    open_page one = open_at one k.held
+    pub open_page : (a : ℕ) → p.held ≡ Some a → Open symbols s a p st.held
+    open_page a one = open_at a one k.held
 
-    none_open : p.held ≡ 0 → Held symbols s p.held p.pages p.bytes st.held → st.held ≡ none
+    none_open : p.held ≡ None → Held symbols s p st.held → st.held ≡ none
     none_open z (nothing e h q b) = h
-    none_open z (page a e h l x q b) = absurd (omega arith)
+    none_open z (page a e h l x q b) = absurd (shut_open (sym z ∙ e))
 
     -- no page is open
-    pub closed_none : (cut : Bool) → p.held ≡ 0 → Kept symbols s (closed cut st) p lines
+    pub closed_none : (cut : Bool) → p.held ≡ None → Kept symbols s (closed cut st) p lines
     closed_none cut z =
         let h = none_open z k.held in
         let same = sym (close_none cut st.pages h) in
@@ -88,25 +93,25 @@ module _ (symbols : List ℕ) (s : ℕ) where
         }
 
     -- the open page's line is printed behind the others
-    module _ (cut : Bool) (one : p.held ≡ 0 → ⊥) (inside : s ≤ length symbols) (room : p.bytes ≤ length lines) where
+    module _ (cut : Bool) (a : ℕ) (one : p.held ≡ Some a) (inside : s ≤ length symbols) (room : p.bytes ≤ length lines) where
       abbrev last : Hearing
-      last = page_in symbols (p.held - 1) s
+      last = page_in symbols a s
 
       abbrev line : List ℕ
       line = line_heard (closed_as cut last)
 
       pub closed_page : (n : ℕ) {part : List ℕ} → n ≡ length line → part ≡ over (take (length lines - p.bytes) (drop p.bytes lines)) line
-          → Kept symbols s (closed cut st) (record { held = 0; pages = p.pages + 1; lost = p.lost; orphans = p.orphans; bytes = p.bytes + n })
+          → Kept symbols s (closed cut st) (record { held = None; pages = p.pages + 1; lost = p.lost; orphans = p.orphans; bytes = p.bytes + n })
           (take p.bytes lines ++ (part ++ drop (length lines - p.bytes) (drop p.bytes lines)))
       closed_page n size q =
-          let o = open_page one in
+          let o = open_page a one in
           let old = lines_heard st.pages in
           let pages : close cut st.pages st.held ≡ st.pages ++ (closed_as cut last ∷ []) = close_page cut st.pages last o.is in
           let more : old ++ line ≡ lines_heard (close cut st.pages st.held) = sym (ap lines_heard pages ∙ lines_more st.pages (closed_as cut last)) in
           let whole : lines ≡ over lines old = sym (take-append-drop p.bytes lines) ∙ ap₂ (λ (x : List ℕ) (m : ℕ). x ++ drop m lines) k.printed k.size in
           let next = over_behind lines old line p.bytes whole (sym k.size) room q in
           let total : p.bytes + n ≡ length (old ++ line) = omega (arith, length-append old line, k.size, size) in
-          let short = page_short symbols (p.held - 1) s cut o.behind inside in
+          let short = page_short symbols a s cut o.behind inside in
           record {
             pages = omega (arith, ap length pages, length-append st.pages (closed_as cut last ∷ []), k.pages);
             lost = k.lost;
@@ -166,7 +171,7 @@ module _ (symbols : List ℕ) (s : ℕ) where
         })
 
     pub address_next : (u f : ℕ) → said x ≡ Address u f → Kept symbols s (closed false st) q lines
-        → Kept symbols (s + 1) (state_by symbols (s + 1)) (record { held = s + 1; pages = q.pages; lost = q.lost; orphans = q.orphans; bytes = q.bytes }) lines
+        → Kept symbols (s + 1) (state_by symbols (s + 1)) (record { held = Some s; pages = q.pages; lost = q.lost; orphans = q.orphans; bytes = q.bytes }) lines
     unfolding hear
     address_next u f e k =
         let few = shut symbols s refl k.held in
@@ -185,7 +190,7 @@ module _ (symbols : List ℕ) (s : ℕ) where
         })
 
     module _ (b : ℕ) (e : said x ≡ Message b) (k : Kept symbols s st q lines) where
-      pub orphan_next : q.held ≡ 0
+      pub orphan_next : q.held ≡ None
           → Kept symbols (s + 1) (state_by symbols (s + 1)) (record { held = q.held; pages = q.pages; lost = q.lost; orphans = q.orphans + 1; bytes = q.bytes }) lines
       unfolding hear reading.take
       orphan_next z =
@@ -219,11 +224,10 @@ module _ (symbols : List ℕ) (s : ℕ) where
               ∙ ap (λ (g : ℕ). groups_said (take (s - (a + 1)) d) ++ (g ∷ [])) (ap (λ (y : ℕ). y % 2 ^ 20) word ∙ sym (said_message x b e))
               )
 
-      pub group_next : (q.held ≡ 0 → ⊥) → s < length symbols → Kept symbols (s + 1) (state_by symbols (s + 1)) q lines
+      pub group_next : (a : ℕ) → q.held ≡ Some a → s < length symbols → Kept symbols (s + 1) (state_by symbols (s + 1)) q lines
       unfolding hear reading.take
-      group_next one inside =
-          let o = open_page symbols s st q k one in
-          let number : q.held ≡ q.held - 1 + 1 = omega (arith, one) in
+      group_next a one inside =
+          let o = open_page symbols s st q k a one in
           rw (state_next (Message b) e, o.is, reading.take)
           (record {
             pages = k.pages;
@@ -233,19 +237,20 @@ module _ (symbols : List ℕ) (s : ℕ) where
             few_orphans = omega (arith, k.few_orphans);
             size = k.size;
             printed = k.printed;
-            held = page (q.held - 1) number (longer (q.held - 1) o.behind inside) (omega (arith, o.behind)) o.address o.pages_few o.bytes_few;
+            held = page a one (longer a o.behind inside) (omega (arith, o.behind)) o.address o.pages_few o.bytes_few;
           })
 
 -- before the first slot
-pub kept_none : (symbols lines : List ℕ) → Kept symbols 0 (state_by symbols 0) (record { held = 0; pages = 0; lost = 0; orphans = 0; bytes = 0 }) lines
+pub kept_none : (symbols lines : List ℕ) {p : Progress} → p.held ≡ None → p.pages ≡ 0 → p.lost ≡ 0 → p.orphans ≡ 0 → p.bytes ≡ 0
+    → Kept symbols 0 (state_by symbols 0) p lines
 unfolding state_by lines_heard
-kept_none symbols lines = record {
-  pages = refl;
-  lost = refl;
-  orphans = refl;
+kept_none symbols lines held pages lost orphans bytes = record {
+  pages = pages;
+  lost = lost;
+  orphans = orphans;
   few_lost = omega arith;
   few_orphans = omega arith;
-  size = refl;
-  printed = refl;
-  held = nothing refl refl (omega arith) (omega arith);
+  size = bytes;
+  printed = rw bytes;
+  held = nothing held refl (omega arith) (omega arith);
 }

@@ -32,16 +32,6 @@ use Rattle.reader.specs.Reading.{Hearing, closed_as}
 use Rattle.reader.specs.Lines.{kind_heard, digits_heard, line_heard, heard_page, room_for, printing_heard, digits_written, line_written, LinesShort, RoomEnough}
 use Rattle.reader.specs.Symbols.{groups_said, page_in}
 
--- ---- the kind
-
-pub kind_none : (f : ℕ) (gs : List ℕ) → length gs ≡ 0 → f ≡ kind_heard f gs
-kind_none f [] h = refl
-kind_none f (g ∷ gs) h = absurd (omega arith)
-
-pub kind_some : (f : ℕ) (gs : List ℕ) → 0 < length gs → cond (eqb f 0) 4 (cond (eqb f 3) 5 (f + 5)) ≡ kind_heard f gs
-kind_some f [] h = absurd (omega arith)
-kind_some f (g ∷ gs) h = refl
-
 -- ---- how long the text and the line are
 
 -- at most five characters a group

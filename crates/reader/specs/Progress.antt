@@ -1,5 +1,5 @@
 -- What the code keeps of a reading before a slot, and what holds of it. No public promise needs this. `Progress` is src/lib.rt's struct.
-use Rattle.std.specs.Prelude.{◌≡◌, Bool, cond, List, ℕ, ◌+◌, ◌*◌, ◌/◌, ◌^◌, ◌≤◌, ◌<◌, eqb, length, get_or, take}
+use Rattle.std.specs.Prelude.{◌≡◌, Bool, List, ℕ, ◌+◌, ◌*◌, ◌/◌, ◌^◌, ◌≤◌, ◌<◌, length, get_or, take, Option as Slot, None, Some}
 use Rattle.std.proofs.Math.Option.{Option, none, some}
 use Rattle.codeword.specs.Code.{idle}
 use Rattle.reader.specs.Reading.{Hearing, State, close}
@@ -22,12 +22,12 @@ pub record Room (words : List ℕ) (symbols digits lines : ℕ) : Type 0 where
   pub room : 160 * (length words / 17) ≤ digits
   pub space : 176 * (length words / 17) ≤ lines
 
--- The open page before slot s, by one more than its address's slot; 0 where none is open. The closed pages, so many with so many bytes
--- of lines, fill no more slots than there are before it.
-pub data Held (symbols : List ℕ) (s number pages bytes : ℕ) (held : Option Hearing) : Type 0 where
-  nothing : number ≡ 0 → held ≡ none → pages ≤ s → bytes ≤ 11 * s → Held symbols s number pages bytes held
-  page : (a : ℕ) → number ≡ a + 1 → held ≡ some (page_in symbols a s) → a < s → get_or symbols a 0 < 2 ^ 20 → pages ≤ a → bytes ≤ 11 * a
-      → Held symbols s number pages bytes held
+-- The open page before slot s, by its address's slot. The closed pages, so many with so many bytes of lines, fill no more slots than
+-- there are before it.
+pub data Held (symbols : List ℕ) (s : ℕ) (p : Progress) (held : Option Hearing) : Type 0 where
+  nothing : p.held ≡ None → held ≡ none → p.pages ≤ s → p.bytes ≤ 11 * s → Held symbols s p held
+  page : (a : ℕ) → p.held ≡ Some a → held ≡ some (page_in symbols a s) → a < s → get_or symbols a 0 < 2 ^ 20 → p.pages ≤ a
+      → p.bytes ≤ 11 * a → Held symbols s p held
 
 -- the numbers kept are those of the state before slot s, and the lines of its closed pages are printed
 pub record Kept (symbols : List ℕ) (s : ℕ) (st : State) (p : Progress) (lines : List ℕ) : Type 0 where
@@ -38,7 +38,7 @@ pub record Kept (symbols : List ℕ) (s : ℕ) (st : State) (p : Progress) (line
   pub few_orphans : p.orphans ≤ s
   pub size : p.bytes ≡ length (lines_heard st.pages)
   pub printed : take p.bytes lines ≡ lines_heard st.pages
-  pub held : Held symbols s p.held p.pages p.bytes st.held
+  pub held : Held symbols s p st.held
 
 -- the state once the open page, if any, is closed
 abbrev pub closed : Bool → State → State
@@ -59,13 +59,17 @@ abbrev pub Idles : List ℕ → ℕ → ℕ → Type 0
 Idles = Run (λ x. x ≡ idle / 2048)
 
 -- what n message words add: they are orphans where no page is open
+abbrev pub orphans_with : Slot ℕ → ℕ → ℕ → ℕ
+orphans_with None orphans n = orphans + n
+orphans_with (Some a) orphans n = orphans
+
 abbrev pub with_messages : Progress → ℕ → Progress
-with_messages p n = record { held = p.held; pages = p.pages; lost = p.lost; orphans = cond (eqb p.held 0) (p.orphans + n) p.orphans; bytes = p.bytes }
+with_messages p n = record { held = p.held; pages = p.pages; lost = p.lost; orphans = orphans_with p.held p.orphans n; bytes = p.bytes }
 
 -- the slots from s to e change nothing: there are none, or no page is open and they hold idle
 pub record Quiet (p : Progress) (symbols : List ℕ) (s e : ℕ) : Type 0 where
   pub idles : Idles symbols s e
-  pub shut : s < e → p.held ≡ 0
+  pub shut : s < e → p.held ≡ None
 
 -- all slots are heard, and the end has closed the open page, cut short or not
 abbrev pub KeptAll : Bool → List ℕ → Progress → List ℕ → Type 0

@@ -84,10 +84,10 @@ struct ReadWord {
 }
 
 // What is kept of a reading before a slot.
-#[derive(Clone, Copy)]
+#[derive(Clone, Copy, Default)]
 struct Progress {
-    // One more than the slot of the open page's address; 0 where no page is open.
-    held: usize,
+    // The slot of the open page's address.
+    held: Option<usize>,
     // The closed pages, the lost words, the orphans.
     pages: u32,
     lost: u32,
@@ -96,7 +96,8 @@ struct Progress {
     bytes: usize,
 }
 
-// The symbol of a lost word. Any other word's symbol is the 21 information bits of its codeword.
+// The symbol of a lost word. Any other word's symbol is the 21 information bits of its codeword. Symbols are numbers, and no enum, since
+// memory is fixed: an enum with its values takes twelve bytes, not four.
 const LOST: u32 = 0x20_0000;
 
 // The symbol of idle.
@@ -160,14 +161,12 @@ fn first_unsynced(words: &[u32]) -> usize
     ensures { result ≡ first_unsynced words.now }
 {
     let batches = words.len() / 17;
-    let mut q = 0;
-    while q < batches {
+    for q in 0..batches {
         if !is_sync(words[17 * q]) {
             return q;
         }
-        q += 1;
     }
-    q
+    batches
 }
 
 // How many bits are changed in the sync words of whole batches, 300 at most, that all begin with sync.
@@ -176,12 +175,9 @@ fn syncs_changed(words: &[u32]) -> u32
     requires words_len_bound_2 { length words.now / 17 ≤ first_unsynced words.now }
     ensures { result ≡ syncs_changed (sync_word words.now) (length words.now / 17) }
 {
-    let batches = words.len() / 17;
     let mut changed = 0;
-    let mut q = 0;
-    while q < batches {
+    for q in 0..words.len() / 17 {
         changed += codeword::sync_distance(words[17 * q]);
-        q += 1;
     }
     changed
 }
@@ -194,12 +190,10 @@ fn read_slots(engine: Engine, words: &[u32], symbols: &mut [u32]) -> u32
     ensures value { result ≡ slots_changed (slot_word words.now) (length symbols.old) }
 {
     let mut changed = 0;
-    let mut s = 0;
-    while s < symbols.len() {
+    for (s, symbol) in symbols.iter_mut().enumerate() {
         let r = read_word(engine, words[17 * (s / 16) + 1 + s % 16]);
-        symbols[s] = r.symbol;
+        *symbol = r.symbol;
         changed += r.changed;
-        s += 1;
     }
     changed
 }
@@ -210,15 +204,12 @@ fn write_groups(groups: &[u32], digits: &mut [u8]) -> usize
     ensures value { result ≡ length (fives groups.now) }
     ensures digits_after { digits.new ≡ over digits.old (fives groups.now) }
 {
-    let n = groups.len();
-    let mut i = 0;
-    while i < n {
+    for (i, group) in groups.iter().enumerate() {
         let start = 5 * i;
         let end = start + 5;
-        base::write_digits(&mut digits[start..end], groups[i]);
-        i += 1;
+        base::write_digits(&mut digits[start..end], *group);
     }
-    5 * n
+    5 * groups.len()
 }
 
 // Writes a text as pairs of digits, and answers how many digits they are.
@@ -251,7 +242,7 @@ fn kind(function: u8, groups: &[u32]) -> u8
     requires { function < 4 }
     ensures { result ≡ kind_heard function groups.now }
 {
-    if groups.len() == 0 {
+    if groups.is_empty() {
         return function;
     }
     match function {
@@ -359,18 +350,16 @@ fn close(
     requires kept { Kept symbols.now s (state_by symbols.now s) p lines.old }
     ensures { Kept symbols.now s (closed cut (state_by symbols.now s)) result lines.new }
 {
-    if p.held == 0 {
+    let Some(a) = p.held else {
         return p;
-    }
-    let a = p.held - 1;
+    };
     let at = p.bytes;
     let n = print_page(symbols, a, s, cut, digits, &mut lines[at..]);
     Progress {
-        held: 0,
+        held: None,
         pages: p.pages + 1,
-        lost: p.lost,
-        orphans: p.orphans,
         bytes: at + n,
+        ..p
     }
 }
 
@@ -381,8 +370,7 @@ fn hear(p: Progress, symbols: &[u32], s: usize, digits: &mut [u8], lines: &mut [
     requires kept { Kept symbols.now s (state_by symbols.now s) p lines.old }
     ensures { Kept symbols.now (s + 1) (state_by symbols.now (s + 1)) result lines.new }
 {
-    let m = said(symbols[s]);
-    match m {
+    match said(symbols[s]) {
         Meaning::Lost => {
             let mut q = close(p, symbols, s, true, digits, lines);
             q.lost += 1;
@@ -391,16 +379,10 @@ fn hear(p: Progress, symbols: &[u32], s: usize, digits: &mut [u8], lines: &mut [
         Meaning::Idle => close(p, symbols, s, false, digits, lines),
         Meaning::Address(_, _) => {
             let mut q = close(p, symbols, s, false, digits, lines);
-            q.held = s + 1;
+            q.held = Some(s);
             q
         }
-        Meaning::Message(_) => {
-            let mut q = p;
-            if p.held == 0 {
-                q.orphans += 1;
-            }
-            q
-        }
+        Meaning::Message(_) => hear_messages(p, 1),
     }
 }
 
@@ -409,17 +391,10 @@ fn message_end(symbols: &[u32], s: usize) -> usize
     requires { s ≤ length symbols.now }
     ensures { Messages symbols.now s result }
 {
-    let mut e = s;
-    while e < symbols.len() {
-        if symbols[e] < 0x10_0000 {
-            return e;
-        }
-        if LOST <= symbols[e] {
-            return e;
-        }
-        e += 1;
-    }
-    e
+    s + symbols[s..]
+        .iter()
+        .take_while(|x| 0x10_0000 <= **x && **x < LOST)
+        .count()
 }
 
 // Where the idle words that begin at slot s end.
@@ -427,14 +402,7 @@ fn idle_end(symbols: &[u32], s: usize) -> usize
     requires { s ≤ length symbols.now }
     ensures { Idles symbols.now s result }
 {
-    let mut e = s;
-    while e < symbols.len() {
-        if symbols[e] != IDLE {
-            return e;
-        }
-        e += 1;
-    }
-    e
+    s + symbols[s..].iter().take_while(|x| **x == IDLE).count()
 }
 
 // n message words heard: with no page open they are orphans.
@@ -442,12 +410,13 @@ fn hear_messages(p: Progress, n: usize) -> Progress
     requires { p.orphans + n ≤ 4800 }
     ensures { result ≡ with_messages p n }
 {
-    if p.held != 0 {
-        return p;
+    match p.held {
+        Some(_) => p,
+        None => Progress {
+            orphans: p.orphans + n as u32,
+            ..p
+        },
     }
-    let mut q = p;
-    q.orphans += n as u32;
-    q
 }
 
 // The next slot, from slot s on, that may change more than the number of orphans: with no page open idle words change nothing.
@@ -455,10 +424,10 @@ fn quiet_end(p: Progress, symbols: &[u32], s: usize) -> usize
     requires { s ≤ length symbols.now }
     ensures { Quiet p symbols.now s result }
 {
-    if p.held != 0 {
-        return s;
+    match p.held {
+        Some(_) => s,
+        None => idle_end(symbols, s),
     }
-    idle_end(symbols, s)
 }
 
 // Hears all slots: the lines of their pages are printed over the front of the lent lines. The end closes an open page, cut short or
@@ -467,13 +436,7 @@ fn hear_all(symbols: &[u32], cut: bool, digits: &mut [u8], lines: &mut [u8]) -> 
     requires { Buffers symbols.now digits.old lines.old }
     ensures { KeptAll cut symbols.now result lines.new }
 {
-    let mut p = Progress {
-        held: 0,
-        pages: 0,
-        lost: 0,
-        orphans: 0,
-        bytes: 0,
-    };
+    let mut p = Progress::default();
     let mut s = 0;
     loop {
         let e = message_end(symbols, s);
@@ -538,15 +501,23 @@ fn read_synced(
     read_into(&symbols[..slots], cut, changed, digits, lines, out)
 }
 
-// Reads at most 16 batches that all begin with sync: to clear the room for 300 would take longer than to read these.
-fn read_few(engine: Engine, words: &[u32], cut: bool, out: &mut [u8]) -> Reading
-    requires { Room words.now 256 2560 2816 }
+// Reads batches that all begin with sync, with room for S slots, D digits and L bytes of lines.
+fn read_within<const S: usize, const D: usize, const L: usize>(
+    engine: Engine,
+    words: &[u32],
+    cut: bool,
+    out: &mut [u8],
+) -> Reading
+    requires room { Room words.now S D L }
+    requires few_slots { S ≤ 4800 }
+    requires few_digits { D ≤ 48000 }
+    requires few_bytes { L ≤ 52800 }
     ensures value { result ≡ printed_into (heard_stretch cut words.now) (length out.old) }
     ensures out_after { out.new ≡ over out.old (lines_of result (heard_stretch cut words.now)) }
 {
-    let mut symbols = [0u32; 256];
-    let mut digits = [0u8; 2560];
-    let mut lines = [0u8; 2816];
+    let mut symbols = [0u32; S];
+    let mut digits = [0u8; D];
+    let mut lines = [0u8; L];
     read_synced(
         engine,
         words,
@@ -558,36 +529,16 @@ fn read_few(engine: Engine, words: &[u32], cut: bool, out: &mut [u8]) -> Reading
     )
 }
 
-// Reads at most 300 batches that all begin with sync.
-fn read_many(engine: Engine, words: &[u32], cut: bool, out: &mut [u8]) -> Reading
-    requires { Room words.now 4800 48000 52800 }
-    ensures value { result ≡ printed_into (heard_stretch cut words.now) (length out.old) }
-    ensures out_after { out.new ≡ over out.old (lines_of result (heard_stretch cut words.now)) }
-{
-    let mut symbols = [0u32; 4800];
-    let mut digits = [0u8; 48000];
-    let mut lines = [0u8; 52800];
-    read_synced(
-        engine,
-        words,
-        cut,
-        &mut symbols,
-        &mut digits,
-        &mut lines,
-        out,
-    )
-}
-
-// Reads words that can be read.
+// Reads words that can be read: to clear the room for 300 batches would take longer than to read 16.
 fn read_sound(engine: Engine, words: &[u32], cut: bool, out: &mut [u8]) -> Reading
     requires { Readable words.now }
     ensures value { result ≡ printed_into (heard_stretch cut words.now) (length out.old) }
     ensures out_after { out.new ≡ over out.old (lines_of result (heard_stretch cut words.now)) }
 {
     if words.len() / 17 <= 16 {
-        return read_few(engine, words, cut, out);
+        return read_within::<256, 2560, 2816>(engine, words, cut, out);
     }
-    read_many(engine, words, cut, out)
+    read_within::<4800, 48000, 52800>(engine, words, cut, out)
 }
 
 // Reads words by their verdict.

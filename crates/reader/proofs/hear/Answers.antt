@@ -1,7 +1,8 @@
 -- `reader::hear` meets its contract. Assumes nothing.
 use mathlib.Core.Path.{sym, ◌∙◌}
 use native.Mathlib.Omega.{arith}
-use Rattle.reader.proofs.Keeping.{lost_next, idle_next, address_next, orphan_next, group_next}
+use Rattle.reader.proofs.Keeping.{lost_next, idle_next, address_next}
+use Rattle.reader.proofs.Runs.{message_next}
 use Rattle.reader.proofs.hear.Goals as goal
 
 pub close-q-requires : goal.close-q-requires
@@ -31,27 +32,26 @@ close-q-requires-in-Address c =
 pub returns-in-Lost : goal.returns-in-Lost
 returns-in-Lost c =
     let a = c.args in
-    let says = sym c.said-m.ensures ∙ c.in-Lost.is in
+    let says = sym c.said.ensures ∙ c.in-Lost.is in
     lost_next a.symbols.now a.s c.close-q.result says c.close-q.ensures
 
 pub returns-in-Idle : goal.returns-in-Idle
 returns-in-Idle c =
     let a = c.args in
-    let says = sym c.said-m.ensures ∙ c.in-Idle.is in
+    let says = sym c.said.ensures ∙ c.in-Idle.is in
     idle_next a.symbols.now a.s c.close.result says c.close.ensures
 
 pub returns-in-Address : goal.returns-in-Address
 returns-in-Address c =
     let a = c.args in
-    let says = sym c.said-m.ensures ∙ c.in-Address.is in
+    let says = sym c.said.ensures ∙ c.in-Address.is in
     address_next a.symbols.now a.s c.close-q-in-Address.result _ _ says c.close-q-in-Address.ensures
 
-pub returns-then-p-eq0 : goal.returns-then-p-eq0
-returns-then-p-eq0 c =
-    let says = sym c.said-m.ensures ∙ c.in-Message.is in
-    orphan_next c.args.symbols.now c.args.s c.args.p _ says c.requires.kept c.if-p-eq0.true
+pub hear_messages-requires : goal.hear_messages-requires
+hear_messages-requires c = omega (arith, c.requires.kept.few_orphans, c.requires.s_in_bounds, c.requires.buffers.slots)
 
-pub returns-else-p-eq0 : goal.returns-else-p-eq0
-returns-else-p-eq0 c =
-    let says = sym c.said-m.ensures ∙ c.in-Message.is in
-    group_next c.args.symbols.now c.args.s c.args.p _ says c.requires.kept c.if-p-eq0.false c.requires.s_in_bounds
+pub returns-in-Message : goal.returns-in-Message
+returns-in-Message c =
+    let a = c.args in
+    let says = sym c.said.ensures ∙ c.in-Message.is in
+    rw c.hear_messages.ensures (message_next a.symbols.now a.s a.p _ says c.requires.s_in_bounds c.requires.kept)

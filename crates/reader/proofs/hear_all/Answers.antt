@@ -12,7 +12,9 @@ use Rattle.reader.proofs.hear_all.Goals.{After-quiet_end-f}
 use Rattle.reader.proofs.hear_all.Goals as goal
 
 pub loop-digits-init : goal.loop-digits-init
-loop-digits-init c = (omega arith, refl, refl, kept_none c.args.symbols.now c.args.lines.now)
+loop-digits-init c =
+    let new = c.default-p.ensures in
+    (omega arith, refl, refl, kept_none c.args.symbols.now c.args.lines.now new.0 new.1.0 new.1.1.0 new.1.1.1.0 new.1.1.1.1)
 
 -- once the runs are passed
 abbrev passed : After-quiet_end-f → Type 0

@@ -1,8 +1,8 @@
-use mathlib.Core.Path.{◌≡◌, refl, ◌∙◌}
+use mathlib.Core.Path.{◌≡◌}
 use mathlib.Core.List.{List}
 use Prim.Native.Nat.{ℕ, ◌+◌}
 use native.Mathlib.Omega.{arith}
-use lib.ListN.{length, length-set}
+use lib.ListN.{length}
 use borrow.Author.Count.{below_none}
 use Rattle.base.proofs.SearchLaws.{sum_none, sum_next, sum_most}
 use Rattle.codeword.specs.Nearest.{nearest}
@@ -14,7 +14,7 @@ use Rattle.reader.proofs.SymbolLaws.{one_said}
 use Rattle.reader.proofs.read_slots.Goals as goal
 
 pub loop-s-init : goal.loop-s-init
-loop-s-init c = (omega arith, refl, below_none _, sum_none _)
+loop-s-init c = (below_none _, sum_none _)
 
 -- the sum with this slot's bits
 next : (words : List ℕ) (s : ℕ) {changed here : ℕ} → changed ≡ slots_changed (slot_word words) s → here ≡ slot_changed (slot_word words s)
@@ -24,26 +24,21 @@ next words s sum e = sum_next _ s sum e
 pub overflow_add-changed : goal.overflow_add-changed
 overflow_add-changed c =
     let word = slot_word c.args.words.now in
-    omega (arith, next c.args.words.now c.loop-s.s c.loop-s.invariant.3 c.read_word-r.ensures.changed_value, sum_most (λ s. slot_changed (word s)) 32 (c.loop-s.s + 1) (λ s. slot_few (word s)), c.requires.symbols_len_bound_2)
+    omega (arith, next c.args.words.now c.loop-s.s c.loop-s.invariant.1 c.read_word-r.ensures.changed_value, sum_most (λ s. slot_changed (word s)) 32 (c.loop-s.s + 1) (λ s. slot_few (word s)), c.requires.symbols_len_bound_2)
 
 pub loop-s-preserved : goal.loop-s-preserved
 loop-s-preserved c =
     let l = c.loop-s in
     let words = c.args.words.now in (
-      omega arith,
-      length-set l.symbols l.s _ ∙ l.invariant.1,
-      one_said (λ k. meaning (nearest (slot_word words k))) l.symbols l.s _ (omega arith) l.invariant.2 c.read_word-r.ensures.symbol_value,
-      next words l.s l.invariant.3 c.read_word-r.ensures.changed_value,
+      one_said (λ k. meaning (nearest (slot_word words k))) l.symbols l.s _ (omega (arith, l.auto.symbols)) l.invariant.0 c.read_word-r.ensures.symbol_value,
+      next words l.s l.invariant.1 c.read_word-r.ensures.changed_value,
     )
-
-pub shape_of-symbols : goal.shape_of-symbols
-shape_of-symbols c = c.loop-s.invariant.1
 
 pub returns : goal.returns
 returns c =
     let l = c.loop-s in
-    let all : l.s ≡ length c.args.symbols.now = omega arith in
+    let all : l.s ≡ length c.args.symbols.now = omega (arith, l.auto.s-end, c.loop-s-test.false) in
     record {
-      tells = record { count = l.invariant.1; each = λ s h. l.invariant.2 s (omega arith) };
-      value = rw all at l.invariant.3;
+      tells = record { count = l.auto.symbols; each = λ s h. l.invariant.0 s (omega arith) };
+      value = rw all at l.invariant.1;
     }

