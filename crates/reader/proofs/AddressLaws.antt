@@ -1,7 +1,7 @@
 -- What an address says. Assumes nothing.
 use mathlib.Core.Path.{◌≡◌, refl}
 use mathlib.Core.Bool.{Bool, true, false, cond}
-use mathlib.Core.Option.{none, some}
+use Rattle.std.specs.Prelude.{None, Some}
 use Prim.Native.Nat.{ℕ, ◌*◌, ◌/◌, ◌%◌, ◌^◌}
 use native.Mathlib.Omega.{arith}
 use lib.Dec.{eqb, ltb}
@@ -28,5 +28,5 @@ codeword_addressed c u f = go (ltb c (2 ^ 31)) refl (is_reserved (c / 8192 * 8))
     go false l reserved rests e = let z : ◌≡◌ {A = ℕ} 0 1 = cc in absurd (omega arith)
 
 pub addressed : AllAddressed
-addressed none u f e = let z : ◌≡◌ {A = ℕ} 0 1 = cc in absurd (omega arith)
-addressed (some c) u f e = codeword_addressed c u f e
+addressed None u f e = let z : ◌≡◌ {A = ℕ} 0 1 = cc in absurd (omega arith)
+addressed (Some c) u f e = codeword_addressed c u f e

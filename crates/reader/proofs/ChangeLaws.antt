@@ -3,14 +3,14 @@ use mathlib.Core.Path.{◌≡◌, refl, sym, ap, ap₂, ◌∙◌}
 use mathlib.Core.Bool.{Bool, true, false, cond}
 use Prim.Native.Nat.{ℕ, ◌*◌, ◌/◌, ◌%◌, ◌^◌, ◌≤◌, ◌<◌}
 use native.Mathlib.Omega.{arith}
+use Rattle.std.specs.Prelude.{None, Some}
 use lib.Dec.{eqb, ltb}
 use borrow.Author.Tests.{lt-ltb}
 use Rattle.base.proofs.Bools.{true_false}
 use Rattle.codeword.specs.Answer.{answer, changed_of, changed}
 use Rattle.codeword.specs.Code.{idle}
 use Rattle.codeword.specs.Nearest.{nearest}
-use Rattle.codeword.specs.declared.Codeword.{Codeword}
-use Rattle.codeword.specs.declared.Correction.TheVariants.{Corrected, Refused}
+use Rattle.codeword.specs.declared.Corrected.{Corrected}
 use Rattle.codeword.proofs.AnswerLaws.{answer_corrected, answer_refused, answer_few}
 use Rattle.reader.specs.Meaning.{codeword_meaning, meaning}
 use Rattle.reader.specs.Changed.{unless_lost, slot_changed}
@@ -47,13 +47,13 @@ module _ (x n : ℕ) where
   lost h = ap (λ (m : Meaning). unless_lost m n) (is_lost x h)
 
 module _ (w : ℕ) where
-  pub refused_word_lem : Refused ≡ answer w (nearest w) → (said 0x200000 ≡ meaning (nearest w)) × (0 ≡ slot_changed w)
+  pub refused_word_lem : None ≡ answer w (nearest w) → (said 0x200000 ≡ meaning (nearest w)) × (0 ≡ slot_changed w)
   unfolding slot_changed
   refused_word_lem a = let e = answer_refused w (nearest w) a in (lost_said ∙ sym (ap meaning e), rw e)
 
-  pub corrected_word : (c : Codeword) (n : ℕ) → Corrected c n ≡ answer w (nearest w) → (x m : ℕ) → said x ≡ codeword_meaning c.0
-      → m ≡ unless_lost (said x) n → (said x ≡ meaning (nearest w)) × (m ≡ slot_changed w)
+  pub corrected_word : (r : Corrected) → Some r ≡ answer w (nearest w) → (x m : ℕ) → said x ≡ codeword_meaning r.codeword.0
+      → m ≡ unless_lost (said x) r.changed → (said x ≡ meaning (nearest w)) × (m ≡ slot_changed w)
   unfolding slot_changed
-  corrected_word c n a x m s u =
-      let says : said x ≡ meaning (nearest w) = s ∙ sym (ap meaning (answer_corrected w (nearest w) c n a)) in
+  corrected_word r a x m s u =
+      let says : said x ≡ meaning (nearest w) = s ∙ sym (ap meaning (answer_corrected w (nearest w) r a)) in
       (says, u ∙ ap₂ unless_lost says (ap changed_of a))

@@ -3,7 +3,7 @@ use mathlib.Core.Path.{◌≡◌, refl, sym, ap, ◌∙◌}
 use mathlib.Core.Bool.{true, false, not, not-not}
 use mathlib.Core.List.{List}
 use mathlib.Core.Logic.{⊎_elim}
-use mathlib.Core.Option.{Option, none, some}
+use Rattle.std.specs.Prelude.{Option, None, Some}
 use Prim.Native.Nat.{ℕ, ◌/◌, ◌^◌, ◌≤◌, ◌<◌}
 use native.Mathlib.Omega.{arith}
 use lib.Bits.{bit_xor}
@@ -30,8 +30,8 @@ sync_few w = weight_few (bit_xor w sync)
 
 module _ (w : ℕ) (h : w < 2 ^ 32) where
   far : (o : Option ℕ) → nearest w ≡ o → 2 < distance w sync → is_sync o ≡ false
-  far none e d = refl
-  far (some c) e d = ne_eqb c sync (λ s. omega (arith, (nearest_near w h sync (e ∙ ap some s)).close))
+  far None e d = refl
+  far (Some c) e d = ne_eqb c sync (λ s. omega (arith, (nearest_near w h sync (e ∙ ap Some s)).close))
 
   pub sync_test : (n : ℕ) → n ≡ distance w sync → leb n 2 ≡ is_sync (nearest w)
   sync_test n e =
@@ -39,8 +39,8 @@ module _ (w : ℕ) (h : w < 2 ^ 32) where
       (le_or_lt (distance w sync) 2)
 
 as_sync : (w : ℕ) (o : Option ℕ) → is_sync o ≡ true → distance w sync ≡ changed_of (answer w o)
-as_sync w none e = absurd (true_false e refl)
-as_sync w (some c) e = ap (distance w) (sym (eqb-true c sync e))
+as_sync w None e = absurd (true_false e refl)
+as_sync w (Some c) e = ap (distance w) (sym (eqb-true c sync e))
 
 -- where all batches begin with sync
 module _ (words : List ℕ) (h : length words / 17 ≤ first_unsynced words) where

@@ -1,6 +1,5 @@
 -- What an address says. `addressed` in proofs/AddressLaws.antt proves it.
-use Rattle.std.specs.Prelude.{◌≡◌, ℕ, ◌%◌, ◌^◌, ◌<◌}
-use Rattle.std.proofs.Math.Option.{Option}
+use Rattle.std.specs.Prelude.{◌≡◌, ℕ, ◌%◌, ◌^◌, ◌<◌, Option}
 use Rattle.reader.specs.Meaning.{meaning}
 use Rattle.reader.specs.declared.Meaning.TheVariants.{Address}
 

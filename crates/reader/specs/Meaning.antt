@@ -1,6 +1,5 @@
 -- What a received word says, once corrected (document 01, "Codewords" and "Listings and reading"). `Meaning` is src/lib.rt's enum.
-use Rattle.std.specs.Prelude.{Bool, false, cond, ℕ, ◌*◌, ◌/◌, ◌%◌, ◌^◌, eqb, ltb}
-use Rattle.std.proofs.Math.Option.{Option, none, some}
+use Rattle.std.specs.Prelude.{Bool, false, cond, ℕ, ◌*◌, ◌/◌, ◌%◌, ◌^◌, eqb, ltb, Option, None, Some}
 use Rattle.codeword.specs.Code.{sync, idle}
 use Rattle.job.specs.Line.{is_reserved}
 use Rattle.reader.specs.declared.Meaning.{Meaning}
@@ -17,10 +16,10 @@ codeword_meaning c = cond (ltb c (2 ^ 31)) (flag_clear c) (Message (c / 2048 % 1
 
 -- what a received word says, by its nearest codeword: a word that can't be corrected is lost
 abbrev pub meaning : Option ℕ → Meaning
-meaning none = Lost
-meaning (some c) = codeword_meaning c
+meaning None = Lost
+meaning (Some c) = codeword_meaning c
 
 -- a word that corrects to sync
 abbrev pub is_sync : Option ℕ → Bool
-is_sync none = false
-is_sync (some c) = eqb c sync
+is_sync None = false
+is_sync (Some c) = eqb c sync

@@ -17,7 +17,7 @@ ghost use Rattle.reader.specs.Symbols.{said, Tells, state_by, heard_by, page_in,
 ghost use Rattle.reader.specs.Progress.{Buffers, Room, Messages, Idles, Quiet, with_messages, Kept, KeptAll, closed};
 ghost use Rattle.reader.specs.declared.Verdict.TheVariants.{Sound};
 
-use codeword::{Codeword, Correction, Engine};
+use codeword::{Codeword, Corrected, Engine};
 use job::Printing;
 use text::{Coding, Digits};
 
@@ -136,13 +136,13 @@ fn read_word(engine: Engine, word: u32) -> ReadWord
     ensures symbol_value { said result.symbol ≡ meaning (nearest word) }
     ensures changed_value { result.changed ≡ slot_changed word }
 {
-    let Correction::Corrected(c, changed) = codeword::correct_by(engine, word) else {
+    let Some(Corrected { codeword, changed }) = codeword::correct_by(engine, word) else {
         return ReadWord {
             symbol: LOST,
             changed: 0,
         };
     };
-    let symbol = symbol(c);
+    let symbol = symbol(codeword);
     ReadWord {
         symbol: symbol,
         changed: unless_lost(symbol, changed),

@@ -8,5 +8,5 @@ returns-in_default c = let whole = refused_word_lem c.args.word (sym c.in_defaul
 
 pub returns : goal.returns
 returns c =
-    let whole = corrected_word c.args.word _ _ (sym c.in-Corrected.is ∙ c.correct_by.ensures) c.symbol-symbol.result _
+    let whole = corrected_word c.args.word _ (sym c.in-Some.is ∙ c.correct_by.ensures) c.symbol-symbol.result _
     c.symbol-symbol.ensures c.unless_lost.ensures in record { symbol_value = whole.0; changed_value = whole.1 }
