@@ -1,10 +1,9 @@
 -- The worked examples of document 01 that it marks to be proved: one table, and what each row says of the definitions.
 -- `examples_hold` in proofs/Examples.antt proves it.
 use Rattle.std.specs.Prelude.{◌≡◌, List, [], ◌∷◌, ℕ}
-use Rattle.codeword.specs.Answer.{answer, number_of}
+use Rattle.codeword.specs.Answer.{corrected_to, answer, number_of}
 use Rattle.codeword.specs.Code.{codeword, address_bits, message_bits}
 use Rattle.codeword.specs.Nearest.{nearest}
-use Rattle.codeword.specs.declared.Correction.TheVariants.{Corrected}
 use Rattle.text.specs.Coding.{groups_in}
 use Rattle.text.specs.declared.Coding.{Coding}
 use Rattle.text.specs.declared.Coding.TheVariants.{Numeric, Alphanumeric}
@@ -20,7 +19,7 @@ abbrev pub Holds : Example → Type 0
 Holds (address i f w) = codeword (address_bits i f) ≡ w
 Holds (message b w) = codeword (message_bits b) ≡ w
 Holds (group c bytes b) = groups_in c bytes ≡ b ∷ []
-Holds (reads w c n) = answer w (nearest w) ≡ Corrected (record { 0 = c }) n
+Holds (reads w c n) = answer w (nearest w) ≡ corrected_to c n
 Holds (refused w) = number_of (answer w (nearest w)) ≡ 20
 
 abbrev pub AllHold : List Example → Type 0

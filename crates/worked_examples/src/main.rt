@@ -5,7 +5,7 @@
 
 ghost use Rattle.io.specs.Counts.{IsPrefixLen};
 
-use codeword::{Codeword, Correction, Engine};
+use codeword::{Codeword, Corrected, Engine};
 use job::JobAnswer;
 use reader::Reading;
 use std::io::Read;
@@ -61,12 +61,12 @@ fn message(rt: &impl Print, line: &[u8]) {
     print_word(rt, Codeword::message(number_in(line, 2, 7)).word());
 }
 
-fn print_correction(rt: &impl Print, answer: Correction) {
-    let Correction::Corrected(c, changed) = answer else {
+fn print_correction(rt: &impl Print, answer: Option<Corrected>) {
+    let Some(Corrected { codeword, changed }) = answer else {
         print(rt, b" refused 20");
         return;
     };
-    print_word(rt, c.word());
+    print_word(rt, codeword.word());
     print(rt, b" changed ");
     print_number(rt, changed as u64);
 }
