@@ -3,10 +3,10 @@ use mathlib.Core.Path.{◌≡◌, sym, ap, ◌∙◌}
 use mathlib.Core.List.{List}
 use Prim.Native.Nat.{ℕ, ◌≤◌, ◌<◌}
 use native.Mathlib.Omega.{arith}
+use Rattle.std.specs.Prelude.{None, Some}
 use Rattle.codeword.specs.Answer.{answer, changed_of, changed}
 use Rattle.codeword.specs.Nearest.{nearest}
-use Rattle.codeword.specs.declared.Codeword.{Codeword}
-use Rattle.codeword.specs.declared.Correction.TheVariants.{Corrected, Refused}
+use Rattle.codeword.specs.declared.Corrected.{Corrected}
 use Rattle.codeword.proofs.AnswerLaws.{answer_corrected, answer_refused}
 use Rattle.codeword.proofs.NearestLaws.{changed_few}
 use Rattle.reader.specs.Meaning.{codeword_meaning, meaning}
@@ -31,13 +31,13 @@ slot_place_lem words s = omega (arith, slot_class_lem (slot_word words s))
 
 -- by the answer of the correction
 module _ (w : ℕ) where
-  pub slot_refused : Refused ≡ answer w (nearest w) → record { class = 3; says = Lost } ≡ slot_read w
+  pub slot_refused : None ≡ answer w (nearest w) → record { class = 3; says = Lost } ≡ slot_read w
   unfolding slot_class
   slot_refused a = rw (answer_refused w (nearest w) a)
 
-  pub slot_corrected : (c : Codeword) (n : ℕ) → Corrected c n ≡ answer w (nearest w) → (m : Meaning) (k : ℕ) → m ≡ codeword_meaning c.0 → k ≡ class_by m n
+  pub slot_corrected : (r : Corrected) → Some r ≡ answer w (nearest w) → (m : Meaning) (k : ℕ) → m ≡ codeword_meaning r.codeword.0 → k ≡ class_by m r.changed
       → record { class = k; says = m } ≡ slot_read w
   unfolding slot_class
-  slot_corrected c n a m k says class =
-      let same : m ≡ meaning (nearest w) = says ∙ ap meaning (sym (answer_corrected w (nearest w) c n a)) in
+  slot_corrected r a m k says class =
+      let same : m ≡ meaning (nearest w) = says ∙ ap meaning (sym (answer_corrected w (nearest w) r a)) in
       rw (class, same, ap changed_of a)

@@ -13,7 +13,7 @@ ghost use Rattle.coverage.specs.Report.{no_coverage, sums, joined, of_batches, o
 ghost use Rattle.coverage.specs.Rates.{per_million, rate_of};
 ghost use Rattle.coverage.specs.Progress.{slot_read, UpTo, closed_counts, heard_counts, open_after};
 
-use codeword::Correction;
+use codeword::Corrected;
 use listing::Listing;
 use reader::{Fault, Meaning, Verdict};
 
@@ -94,13 +94,13 @@ fn class_by(says: Meaning, changed: u32) -> u32
 fn read_slot(word: u32) -> SlotWord
     ensures { result ≡ slot_read word }
 {
-    let Correction::Corrected(c, changed) = codeword::correct(word) else {
+    let Some(Corrected { codeword, changed }) = codeword::correct(word) else {
         return SlotWord {
             class: 3,
             says: Meaning::Lost,
         };
     };
-    let says = reader::codeword_meaning(c);
+    let says = reader::codeword_meaning(codeword);
     let class = class_by(says, changed);
     SlotWord {
         class: class,

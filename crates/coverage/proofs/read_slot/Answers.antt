@@ -7,4 +7,4 @@ pub returns-in_default : goal.returns-in_default
 returns-in_default c = slot_refused c.args.word (sym c.in_default.is ∙ c.correct.ensures)
 
 pub returns : goal.returns
-returns c = slot_corrected c.args.word _ _ (sym c.in-Corrected.is ∙ c.correct.ensures) _ _ c.codeword_meaning-says.ensures c.class_by-class.ensures
+returns c = slot_corrected c.args.word _ (sym c.in-Some.is ∙ c.correct.ensures) _ _ c.codeword_meaning-says.ensures c.class_by-class.ensures
