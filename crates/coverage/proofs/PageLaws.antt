@@ -1,13 +1,14 @@
 -- The counts of pages along the reader's states. Assumes nothing.
-use mathlib.Core.Path.{◌≡◌, refl, sym, ap, ◌∙◌}
+use mathlib.Core.Path.{◌≡◌, refl, sym, ap, subst, ◌∙◌}
 use mathlib.Core.Bool.{Bool, true, false, cond}
 use mathlib.Core.List.{List, [], ◌∷◌, map, map-append}
-use mathlib.Core.Option.{Option, none, some}
-use Prim.Native.Nat.{ℕ, ◌+◌, ◌-◌, ◌*◌, ◌/◌, ◌%◌, ◌≤◌, ◌<◌}
+use mathlib.Core.Option as maybe
+use mathlib.Core.Option.{none, some}
+use Prim.Native.Nat.{ℕ, ◌+◌, ◌*◌, ◌/◌, ◌%◌, ◌≤◌, ◌<◌}
 use native.Mathlib.Numerals.{add-one}
 use native.Mathlib.Omega.{arith}
 use lib.ListN.{length, replicate, length-map}
-use borrow.Author.Tests.{eq-eqb, ne_eqb}
+use Rattle.std.specs.Prelude.{Option, None, Some, IfSome}
 use Rattle.codeword.specs.Nearest.{nearest}
 use Rattle.placement.specs.Placement.{frame_of}
 use Rattle.reader.specs.Meaning.{meaning}
@@ -17,16 +18,16 @@ use Rattle.reader.specs.declared.Meaning.{Meaning}
 use Rattle.reader.specs.declared.Meaning.TheVariants.{Lost, Idle, Address, Message}
 use Rattle.reader.proofs.Laws.{addressed, pages_few}
 use Rattle.coverage.specs.Tally.{tally, page_place, page_counts}
-use Rattle.coverage.specs.Progress.{UpTo, bumped, closed_counts, heard_counts, open_after}
+use Rattle.coverage.specs.Progress.{UpTo, closed_counts, heard_counts, open_after}
 use Rattle.coverage.proofs.TallyLaws.{tally_none, tally_more, tally_within}
 
--- the open page by one more than its frame, 0 for none
-abbrev held_as : Option Hearing → ℕ
-held_as none = 0
-held_as (some h) = h.identity % 8 + 1
+-- the open page by its frame
+abbrev held_as : maybe.Option Hearing → Option ℕ
+held_as none = None
+held_as (some h) = Some (h.identity % 8)
 
 -- what the code keeps of a state
-pub record Paged (st : State) (held : ℕ) (pages : List ℕ) : Type 0 where
+pub record Paged (st : State) (held : Option ℕ) (pages : List ℕ) : Type 0 where
   pub counts : pages ≡ page_counts st.pages
   pub open_page : held ≡ held_as st.held
 
@@ -37,30 +38,32 @@ page_place_lem h = go h.cut
     go true = omega arith
     go false = omega arith
 
-closed_counts_lem : (cut : Bool) (hs : List Hearing) (o : Option Hearing) (held : ℕ) {pages : List ℕ} → pages ≡ page_counts hs → held ≡ held_as o
+closed_counts_lem : (cut : Bool) (hs : List Hearing) (o : maybe.Option Hearing) (held : Option ℕ) {pages : List ℕ} → pages ≡ page_counts hs → held ≡ held_as o
     → closed_counts pages held cut ≡ page_counts (close cut hs o)
 unfolding close
-closed_counts_lem cut hs none held e z = rw (eq-eqb held 0 z) e
+closed_counts_lem cut hs none held e z = rw z e
 closed_counts_lem cut hs (some h) held {pages} e z =
-    let at : 2 * (held - 1) + cond cut 1 0 ≡ page_place (closed_as cut h) = omega arith in
-    rw (ne_eqb held 0 (λ q. omega arith))
-    (ap (bumped pages) at
-    ∙ tally_more 16 (map page_place hs) (page_place (closed_as cut h)) e (page_place_lem (closed_as cut h))
+    rw z
+    (tally_more 16 (map page_place hs) (page_place (closed_as cut h)) e (page_place_lem (closed_as cut h))
     ∙ ap (tally 16) (sym (map-append page_place hs (closed_as cut h ∷ []))))
 
-held_few : (o : Option Hearing) → held_as o ≤ 8
-held_few none = omega arith
+-- its frame is one of eight
+abbrev pub Framed : Option ℕ → Type 0
+Framed held = IfSome held (λ frame. frame < 8)
+
+held_few : (o : maybe.Option Hearing) → Framed (held_as o)
+held_few none = tt
 held_few (some h) = omega arith
 
-module _ (st : State) (held : ℕ) {pages : List ℕ} (k : Paged st held pages) where
-  pub paged_held : held ≤ 8
-  paged_held = omega (arith, k.open_page, held_few st.held)
+module _ (st : State) (held : Option ℕ) {pages : List ℕ} (k : Paged st held pages) where
+  pub paged_held : Framed held
+  paged_held = subst Framed (sym k.open_page) (held_few st.held)
 
   paged_closed : (cut : Bool) → closed_counts pages held cut ≡ page_counts (close cut st.pages st.held)
   paged_closed cut = closed_counts_lem cut st.pages st.held held k.counts k.open_page
 
   -- a message word
-  paged_message : (b : ℕ) (o : Option Hearing) → held ≡ held_as o → Paged (reading.take b st o) held pages
+  paged_message : (b : ℕ) (o : maybe.Option Hearing) → held ≡ held_as o → Paged (reading.take b st o) held pages
   unfolding reading.take
   paged_message b none z = record { counts = k.counts; open_page = z }
   paged_message b (some h) z = record { counts = k.counts; open_page = z }
@@ -69,18 +72,18 @@ module _ (st : State) (held : ℕ) {pages : List ℕ} (k : Paged st held pages) 
   unfolding hear
   paged_heard s Lost low = record { counts = paged_closed true; open_page = refl }
   paged_heard s Idle low = record { counts = paged_closed false; open_page = refl }
-  paged_heard s (Address u f) low = record { counts = paged_closed false; open_page = omega (arith, low u f refl) }
+  paged_heard s (Address u f) low = record { counts = paged_closed false; open_page = ap Some (omega (arith, low u f refl)) }
   paged_heard s (Message b) low = paged_message b st.held k.open_page
 
 -- ---- along the slots
 
 module _ (word : ℕ → ℕ) where
-  pub paged_none : {pages : List ℕ} → pages ≡ replicate 16 0 → Paged (read_at word 0) 0 pages
+  pub paged_none : {pages : List ℕ} → pages ≡ replicate 16 0 → Paged (read_at word 0) None pages
   unfolding read_at
   paged_none e = record { counts = e ∙ sym (tally_none 16); open_page = refl }
 
-  module _ (s held : ℕ) {pages : List ℕ} (k : Paged (read_at word s) held pages) where
-    pub paged_next : {next : ℕ} {after : List ℕ} (says : Meaning) → says ≡ meaning (nearest (word s)) → next ≡ open_after held (frame_of s) says
+  module _ (s : ℕ) (held : Option ℕ) {pages : List ℕ} (k : Paged (read_at word s) held pages) where
+    pub paged_next : {next : Option ℕ} {after : List ℕ} (says : Meaning) → says ≡ meaning (nearest (word s)) → next ≡ open_after held (frame_of s) says
         → after ≡ heard_counts pages held says → Paged (read_at word (s + 1)) next after
     unfolding read_at
     paged_next says m n a =
@@ -93,7 +96,7 @@ module _ (word : ℕ → ℕ) where
         tally_within 16 4800 (map page_place hs) k.counts (omega (arith, length-map hs page_place, pages_few word s))
 
 -- the end of whole batches
-pub paged_end : (words : List ℕ) (held : ℕ) {pages all : List ℕ} → Paged (read_at (slot_word words) (16 * (length words / 17))) held pages
+pub paged_end : (words : List ℕ) (held : Option ℕ) {pages all : List ℕ} → Paged (read_at (slot_word words) (16 * (length words / 17))) held pages
     → all ≡ closed_counts pages held false → all ≡ page_counts (heard_in words).pages
 unfolding heard_stretch
 paged_end words held k e = e ∙ paged_closed (read_at (slot_word words) (16 * (length words / 17))) held k false

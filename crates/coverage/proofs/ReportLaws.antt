@@ -1,19 +1,27 @@
 -- Laws of reports: their limits, and what the call answers. Assumes nothing.
-use mathlib.Core.Path.{◌≡◌, refl, ap}
-use mathlib.Core.Bool.{true, false, ◌||◌}
+use mathlib.Core.Path.{◌≡◌, refl, sym, ap, ◌∙◌}
+use mathlib.Core.Bool.{Bool, true, false, ◌||◌}
 use mathlib.Core.List.{List, [], ◌∷◌}
+use mathlib.Core.Logic.{⊎_elim}
+use Rattle.std.specs.List.{list_any}
 use Prim.Native.Nat.{ℕ, zero, suc, ◌*◌, ◌≤◌}
 use native.Mathlib.Omega.{arith}
 use lib.Dec.{leb, ltb}
 use lib.ListN.{length, get_or}
-use borrow.Author.Tests.{eq-eqb, ne_eqb, le-leb, leb-true, le-ltb, ltb-false}
+use borrow.Author.Tests.{eq-eqb, ne_eqb, le-leb, lt-leb, leb-true, lt-ltb, le-ltb, ltb-true, ltb-false}
 use Rattle.base.specs.Leading.{leading}
-use Rattle.base.proofs.Bools.{or_false}
+use Rattle.base.proofs.Bools.{either, or_false}
 use Rattle.base.proofs.LeadingLaws.{leading_cons}
+use Rattle.base.proofs.SearchLaws.{le_or_lt}
 use Rattle.coverage.specs.Month.{InBounds}
 use Rattle.coverage.specs.Report.{joined, coverage_of, any_over, is_over, added_to}
 use Rattle.coverage.specs.declared.Adding.TheVariants.{Added, OverLimit, Full}
 use Rattle.coverage.specs.declared.Coverage.{Coverage}
+
+ltb_suc : (m n : ℕ) → ltb m n ≡ ltb (suc m) (suc n)
+ltb_suc m n =
+    ⊎_elim (λ l. le-ltb m n l ∙ sym (le-ltb (suc m) (suc n) (omega arith))) (λ l. lt-ltb m n l ∙ sym (lt-ltb (suc m) (suc n) (omega arith)))
+    (le_or_lt n m)
 
 module _ (limit : ℕ) where
   all_lead : (l : List ℕ) → ((i : ℕ) → get_or l i 0 ≤ limit) → leading (λ x. leb x limit) l ≡ length l
@@ -30,6 +38,20 @@ module _ (limit : ℕ) where
 
   each_low : (l : List ℕ) → any_over limit l ≡ false → (i : ℕ) → get_or l i 0 ≤ limit
   each_low l e = none_high l (ltb-false (leading (λ x. leb x limit) l) (length l) e)
+
+  -- as the code finds it
+  pub some_over : (l : List ℕ) → list_any (λ x. ltb limit x) l ≡ any_over limit l
+  some_over [] = refl
+  some_over (x ∷ l) =
+      ⊎_elim
+      (λ e.
+      ap (λ (b : Bool). b || list_any (λ x. ltb limit x) l) e
+      ∙ sym (rw (lt-leb x limit (ltb-true limit x e)) (lt-ltb 0 (length (x ∷ l)) (omega arith))))
+      (λ e.
+      ap (λ (b : Bool). b || list_any (λ x. ltb limit x) l) e
+      ∙ some_over l
+      ∙ rw (le-leb x limit (ltb-false limit x e)) (ltb_suc (leading (λ x. leb x limit) l) (length l)))
+      (either (ltb limit x))
 
 -- a report that is not number 11 is in bounds, and the other way round
 module _ (c : Coverage) where

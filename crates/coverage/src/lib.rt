@@ -2,7 +2,7 @@
 // lost ones and the pages, whole and cut, and the listings that are refused.
 #![tactic(auto)]
 
-ghost use Rattle.std.specs.Prelude.{◌≡◌, false, ◌+◌, ◌*◌, ◌/◌, ◌≤◌, ◌<◌, length, replicate};
+ghost use Rattle.std.specs.Prelude.{◌≡◌, false, ◌+◌, ◌*◌, ◌/◌, ◌≤◌, ◌<◌, length, replicate, IfSome};
 ghost use Rattle.codeword.specs.Answer.{changed};
 ghost use Rattle.reader.specs.Answers.{judge_decoded};
 ghost use Rattle.reader.specs.Reading.{heard_in};
@@ -102,49 +102,39 @@ fn read_slot(word: u32) -> SlotWord
     };
     let says = reader::codeword_meaning(codeword);
     let class = class_by(says, changed);
-    SlotWord {
-        class: class,
-        says: says,
-    }
+    SlotWord { class, says }
 }
 
-// Counts the open page, if any, as whole or cut: `held` is one more than its frame, 0 where no page is open.
-fn close(held: usize, cut: bool, pages: &mut [u32])
-    requires held_bound { held ≤ 8 }
+// Counts the open page, if any, as whole or cut, in its frame.
+fn close(held: Option<usize>, cut: bool, pages: &mut [u32])
+    requires held_bound { IfSome held (λ frame. frame < 8) }
     requires up_to { UpTo 16 4800 pages.old }
     ensures { pages.new ≡ closed_counts pages.old held cut }
 {
-    if held == 0 {
-        return;
+    if let Some(frame) = held {
+        pages[2 * frame + cut as usize] += 1;
     }
-    let whole = 2 * (held - 1);
-    if cut {
-        pages[whole + 1] += 1;
-        return;
-    }
-    pages[whole] += 1;
 }
 
-// Hears a word of a frame: a page that it closes is counted. Answers one more than the frame of the page that is then open, 0 for none.
-fn hear(held: usize, frame: usize, says: Meaning, pages: &mut [u32]) -> usize
-    requires held_bound { (held ≤ 8) × (frame < 8) }
+// Hears a word of a frame: a page that it closes is counted. Answers the frame of the page that is then open.
+fn hear(held: Option<usize>, frame: usize, says: Meaning, pages: &mut [u32]) -> Option<usize>
+    requires held_bound { IfSome held (λ frame. frame < 8) }
     requires up_to { UpTo 16 4800 pages.old }
     ensures value { result ≡ open_after held frame says }
     ensures pages_after { pages.new ≡ heard_counts pages.old held says }
 {
-    let own = frame + 1;
     match says {
         Meaning::Lost => {
             close(held, true, pages);
-            0
+            None
         }
         Meaning::Idle => {
             close(held, false, pages);
-            0
+            None
         }
         Meaning::Address(_, _) => {
             close(held, false, pages);
-            own
+            Some(frame)
         }
         Meaning::Message(_) => held,
     }
@@ -158,16 +148,14 @@ fn count_slots(words: &[u32], frames: &mut [u32], pages: &mut [u32])
     ensures pages_after { pages.new ≡ page_counts (heard_in words.now).pages }
 {
     let slots = 16 * (words.len() / 17);
-    let mut held = 0;
-    let mut s = 0;
-    while s < slots {
+    let mut held = None;
+    for s in 0..slots {
         let w = read_slot(words[17 * (s / 16) + 1 + s % 16]);
         let frame = s % 16 / 2;
         let at = 4 * frame + w.class as usize;
         let says = w.says;
         frames[at] += 1;
         held = hear(held, frame, says, pages);
-        s += 1;
     }
     close(held, false, pages);
 }
@@ -179,11 +167,9 @@ fn count_syncs(words: &[u32], sync: &mut [u32])
     ensures { sync.new ≡ sync_counts words.now }
 {
     let batches = words.len() / 17;
-    let mut q = 0;
-    while q < batches {
+    for q in 0..batches {
         let at = codeword::sync_distance(words[17 * q]) as usize;
         sync[at] += 1;
-        q += 1;
     }
 }
 
@@ -200,9 +186,9 @@ fn cover_batches(words: &[u32]) -> Coverage
     Coverage {
         listings: 1,
         refused: [0u32; 3],
-        frames: frames,
-        sync: sync,
-        pages: pages,
+        frames,
+        sync,
+        pages,
     }
 }
 
@@ -259,14 +245,7 @@ fn cover_listing(listing: &[u8]) -> Coverage
 fn any_over(counts: &[u32], limit: u32) -> bool
     ensures { result ≡ any_over limit counts.now }
 {
-    let mut i = 0;
-    while i < counts.len() {
-        if limit < counts[i] {
-            return true;
-        }
-        i += 1;
-    }
-    false
+    counts.iter().any(|n| limit < *n)
 }
 
 // Whether a report has over 1,000 listings, or a count over 600 times its listings.
@@ -277,20 +256,16 @@ fn is_over(c: Coverage) -> bool
         return true;
     }
     let limit = 600 * c.listings;
-    let refused = c.refused;
-    if any_over(&refused, limit) {
+    if any_over(&c.refused, limit) {
         return true;
     }
-    let frames = c.frames;
-    if any_over(&frames, limit) {
+    if any_over(&c.frames, limit) {
         return true;
     }
-    let sync = c.sync;
-    if any_over(&sync, limit) {
+    if any_over(&c.sync, limit) {
         return true;
     }
-    let pages = c.pages;
-    any_over(&pages, limit)
+    any_over(&c.pages, limit)
 }
 
 // Adds to each count that of another report.
@@ -299,10 +274,8 @@ fn add_counts(counts: &mut [u32], more: &[u32])
     requires up_to_2 { UpTo (length counts.old) 600000 counts.old }
     ensures { counts.new ≡ sums counts.old more.now }
 {
-    let mut i = 0;
-    while i < counts.len() {
-        counts[i] += more[i];
-        i += 1;
+    for (i, n) in more.iter().enumerate() {
+        counts[i] += *n;
     }
 }
 
@@ -312,21 +285,13 @@ fn add_listing(c: Coverage, listing: &[u8]) -> Coverage
     ensures { result ≡ joined c (coverage_of listing.now) }
 {
     let more = cover_listing(listing);
-    let mut refused = c.refused;
-    let mut frames = c.frames;
-    let mut sync = c.sync;
-    let mut pages = c.pages;
-    add_counts(&mut refused, &more.refused);
-    add_counts(&mut frames, &more.frames);
-    add_counts(&mut sync, &more.sync);
-    add_counts(&mut pages, &more.pages);
-    Coverage {
-        listings: c.listings + more.listings,
-        refused: refused,
-        frames: frames,
-        sync: sync,
-        pages: pages,
-    }
+    let mut sum = c;
+    sum.listings += more.listings;
+    add_counts(&mut sum.refused, &more.refused);
+    add_counts(&mut sum.frames, &more.frames);
+    add_counts(&mut sum.sync, &more.sync);
+    add_counts(&mut sum.pages, &more.pages);
+    sum
 }
 
 // Adds a listing to a report: a declined call returns the report as it was.

@@ -74,8 +74,8 @@ add_counts-requires-4 c =
     let whole = addable 16 (old t).listings (pages_size t) (own t).pages (low t).pages (low t).listings in
     record { up_to = whole.0; up_to_2 = whole.1 }
 
-pub overflow_add-result : goal.overflow_add-result
-overflow_add-result c = let t = (goal.at.overflow_add-result c).After-cover_listing-more in omega (arith, (low t).listings, (own t).listings)
+pub overflow_add-sum : goal.overflow_add-sum
+overflow_add-sum c = let t = (goal.at.overflow_add-sum c).After-cover_listing-more in omega (arith, (low t).listings, (own t).listings)
 
 pub returns : goal.returns
 returns c =

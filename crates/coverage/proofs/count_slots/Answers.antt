@@ -60,7 +60,7 @@ hear-held-requires c =
     let l = c.loop-s in
     let word = slot_word (lent (goal.at.hear-held-requires c).After-read_slot-w) in
     record {
-      held_bound = (paged_held (read_at word l.s) l.held l.invariant.2, omega arith);
+      held_bound = paged_held (read_at word l.s) l.held l.invariant.2;
       up_to = paged_few word l.s l.held l.invariant.2 (omega arith);
     }
 
