@@ -13,8 +13,9 @@ use Rattle.base.proofs.ListLaws.{tab-length, tab-at, tab_most, tab-same}
 use Rattle.base.proofs.SearchLaws.{le_or_lt}
 use Rattle.coverage.specs.Month.{fed, month, over_all, totals, MonthTheorem}
 use Rattle.coverage.specs.Report.{no_coverage, sums, joined, coverage_of, is_over, added_to}
-use Rattle.coverage.specs.declared.Adding.{Adding}
-use Rattle.coverage.specs.declared.Adding.TheVariants.{Added, Full}
+use Rattle.std.specs.Prelude.{Result, Ok, Err, ⊤}
+use Rattle.coverage.specs.declared.AddError.{AddError}
+use Rattle.coverage.specs.declared.AddError.TheVariants.{Full}
 use Rattle.coverage.specs.declared.Coverage.{Coverage}
 use Rattle.coverage.specs.declared.Covered.{Covered}
 use Rattle.coverage.proofs.Bounds.{single_few}
@@ -104,32 +105,32 @@ totals_sound ss h =
 -- ---- one listing after another
 
 -- the last answer, and the totals then
-abbrev after : Adding → List (List ℕ) → Covered
+abbrev after : Result ⊤ AddError → List (List ℕ) → Covered
 after a ss = record { answer = a; coverage = totals ss }
 
 module _ (ss : List (List ℕ)) (s : List ℕ) where
-  next_added : length ss < 1000 → added_to (totals ss) s ≡ after Added (ss ++ (s ∷ []))
+  next_added : length ss < 1000 → added_to (totals ss) s ≡ after (Ok tt) (ss ++ (s ∷ []))
   next_added h =
       added_more (totals ss) s (totals_sound ss (omega arith)) (λ e. omega arith)
-      ∙ ap (λ (c : Coverage). record { answer = Added; coverage = c }) (totals_more ss s)
+      ∙ ap (λ (c : Coverage). record { answer = Ok tt; coverage = c }) (totals_more ss s)
 
-  next_full : length ss ≡ 1000 → added_to (totals ss) s ≡ after Full ss
+  next_full : length ss ≡ 1000 → added_to (totals ss) s ≡ after (Err Full) ss
   next_full e = added_full (totals ss) s (totals_sound ss (omega arith)) e
 
-fed_added : (ss ts : List (List ℕ)) → length ss + length ts ≤ 1000 → fed (after Added ss) ts ≡ after Added (ss ++ ts)
+fed_added : (ss ts : List (List ℕ)) → length ss + length ts ≤ 1000 → fed (after (Ok tt) ss) ts ≡ after (Ok tt) (ss ++ ts)
 unfolding fed
-fed_added ss [] h = ap (after Added) (sym (append-nil ss))
+fed_added ss [] h = ap (after (Ok tt)) (sym (append-nil ss))
 fed_added ss (t ∷ ts) h =
     ap (λ (k : Covered). fed k ts) (next_added ss t (omega arith))
     ∙ fed_added (ss ++ (t ∷ [])) ts (omega (arith, length-append ss (t ∷ [])))
-    ∙ ap (after Added) (append_snoc ss t ts)
+    ∙ ap (after (Ok tt)) (append_snoc ss t ts)
 
-fed_full : (ss ts : List (List ℕ)) → length ss ≡ 1000 → fed (after Full ss) ts ≡ after Full ss
+fed_full : (ss ts : List (List ℕ)) → length ss ≡ 1000 → fed (after (Err Full) ss) ts ≡ after (Err Full) ss
 unfolding fed
 fed_full ss [] e = refl
 fed_full ss (t ∷ ts) e = ap (λ (k : Covered). fed k ts) (next_full ss t e) ∙ fed_full ss ts e
 
-fed_over : (ss ts : List (List ℕ)) → length ss ≡ 1000 → 0 < length ts → fed (after Added ss) ts ≡ after Full ss
+fed_over : (ss ts : List (List ℕ)) → length ss ≡ 1000 → 0 < length ts → fed (after (Ok tt) ss) ts ≡ after (Err Full) ss
 unfolding fed
 fed_over ss [] e h = absurd (omega arith)
 fed_over ss (t ∷ ts) e h = ap (λ (k : Covered). fed k ts) (next_full ss t e) ∙ fed_full ss ts e
@@ -139,18 +140,18 @@ unfolding fed
 fed_append k [] ts = refl
 fed_append k (s ∷ ss) ts = fed_append (added_to k.coverage s) ss ts
 
-month_from : (ss : List (List ℕ)) → month ss ≡ fed (after Added []) ss
-month_from ss = ap (λ (c : Coverage). fed (record { answer = Added; coverage = c }) ss) totals_none
+month_from : (ss : List (List ℕ)) → month ss ≡ fed (after (Ok tt) []) ss
+month_from ss = ap (λ (c : Coverage). fed (record { answer = Ok tt; coverage = c }) ss) totals_none
 
-month_added : (ss : List (List ℕ)) → length ss ≤ 1000 → month ss ≡ after Added ss
+month_added : (ss : List (List ℕ)) → length ss ≤ 1000 → month ss ≡ after (Ok tt) ss
 month_added ss h = month_from ss ∙ fed_added [] ss (omega arith)
 
-month_full : (ss : List (List ℕ)) → 1000 < length ss → month ss ≡ after Full (take 1000 ss)
+month_full : (ss : List (List ℕ)) → 1000 < length ss → month ss ≡ after (Err Full) (take 1000 ss)
 month_full ss h =
     let front = take 1000 ss in
     let size : length front ≡ 1000 = omega (arith, length-take 1000 ss) in
     ap month (sym (take-append-drop 1000 ss))
-    ∙ fed_append (record { answer = Added; coverage = no_coverage }) front (drop 1000 ss)
+    ∙ fed_append (record { answer = Ok tt; coverage = no_coverage }) front (drop 1000 ss)
     ∙ ap (λ (k : Covered). fed k (drop 1000 ss)) (month_added front (omega arith))
     ∙ fed_over front (drop 1000 ss) size (omega (arith, length-drop 1000 ss))
 
@@ -169,5 +170,5 @@ month_theorem = record {
   added = month_added;
   sound = month_sound;
   full = month_full;
-  any_order = λ ss ts h d. month_added ss h ∙ ap (λ (c : Coverage). record { answer = Added; coverage = c }) (totals_same d) ∙ sym (month_added ts (omega (arith, length_same d)));
+  any_order = λ ss ts h d. month_added ss h ∙ ap (λ (c : Coverage). record { answer = Ok tt; coverage = c }) (totals_same d) ∙ sym (month_added ts (omega (arith, length_same d)));
 }

@@ -15,7 +15,8 @@ use Rattle.base.proofs.LeadingLaws.{leading_cons}
 use Rattle.base.proofs.SearchLaws.{le_or_lt}
 use Rattle.coverage.specs.Month.{InBounds}
 use Rattle.coverage.specs.Report.{joined, coverage_of, any_over, is_over, added_to}
-use Rattle.coverage.specs.declared.Adding.TheVariants.{Added, OverLimit, Full}
+use Rattle.std.specs.Prelude.{Ok, Err}
+use Rattle.coverage.specs.declared.AddError.TheVariants.{OverLimit, Full}
 use Rattle.coverage.specs.declared.Coverage.{Coverage}
 
 ltb_suc : (m n : ℕ) → ltb m n ≡ ltb (suc m) (suc n)
@@ -90,14 +91,14 @@ module _ (c : Coverage) where
 -- ---- the call, test by test
 
 module _ (c : Coverage) (s : List ℕ) where
-  pub added_over : is_over c ≡ true → added_to c s ≡ record { answer = OverLimit; coverage = c }
+  pub added_over : is_over c ≡ true → added_to c s ≡ record { answer = Err OverLimit; coverage = c }
   unfolding added_to
   added_over e = rw e
 
-  pub added_full : is_over c ≡ false → c.listings ≡ 1000 → added_to c s ≡ record { answer = Full; coverage = c }
+  pub added_full : is_over c ≡ false → c.listings ≡ 1000 → added_to c s ≡ record { answer = Err Full; coverage = c }
   unfolding added_to
   added_full e n = rw (e, eq-eqb c.listings 1000 n)
 
-  pub added_more : is_over c ≡ false → (c.listings ≡ 1000 → ⊥) → added_to c s ≡ record { answer = Added; coverage = joined c (coverage_of s) }
+  pub added_more : is_over c ≡ false → (c.listings ≡ 1000 → ⊥) → added_to c s ≡ record { answer = Ok tt; coverage = joined c (coverage_of s) }
   unfolding added_to
   added_more e n = rw (e, ne_eqb c.listings 1000 n)

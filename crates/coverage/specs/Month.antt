@@ -1,9 +1,9 @@
 -- A month of listings, one after another from an empty report (document 02, R-12). `month_theorem` in proofs/Month.antt proves it.
-use Rattle.std.specs.Prelude.{◌≡◌, false, ℕ, ◌+◌, ◌*◌, ◌≤◌, ◌<◌, length, get_or, take}
+use Rattle.std.specs.Prelude.{◌≡◌, false, ℕ, ◌+◌, ◌*◌, ◌≤◌, ◌<◌, length, get_or, take, Ok, Err}
 use mathlib.Core.List.{List, [], ◌∷◌, Permᴰ}
 use Rattle.base.specs.Lists.{tab}
 use Rattle.coverage.specs.Report.{no_coverage, coverage_of, is_over, added_to}
-use Rattle.coverage.specs.declared.Adding.TheVariants.{Added, Full}
+use Rattle.coverage.specs.declared.AddError.TheVariants.{Full}
 use Rattle.coverage.specs.declared.Coverage.{Coverage}
 use Rattle.coverage.specs.declared.Covered.{Covered}
 
@@ -14,7 +14,7 @@ fed k (s ∷ ss) = fed (added_to k.coverage s) ss
 
 -- from an empty report
 abbrev pub month : List (List ℕ) → Covered
-month ss = fed (record { answer = Added; coverage = no_coverage }) ss
+month ss = fed (record { answer = Ok tt; coverage = no_coverage }) ss
 
 -- the sum of a number over listings
 unfoldable pub over_all : (List ℕ → ℕ) → List (List ℕ) → ℕ
@@ -44,10 +44,10 @@ pub record MonthTheorem : Type 0 where
   pub in_bounds : (c : Coverage) → is_over c ≡ false → InBounds c
   pub passes : (c : Coverage) → InBounds c → is_over c ≡ false
   -- from an empty report up to 1,000 listings are added, and the totals are the sums over the single readings
-  pub added : (ss : List (List ℕ)) → length ss ≤ 1000 → month ss ≡ record { answer = Added; coverage = totals ss }
+  pub added : (ss : List (List ℕ)) → length ss ≤ 1000 → month ss ≡ record { answer = Ok tt; coverage = totals ss }
   -- a report so made is never number 11
   pub sound : (ss : List (List ℕ)) → is_over (month ss).coverage ≡ false
   -- each listing more is one too many, whatever it is, and leaves the report as the first 1,000 made it
-  pub full : (ss : List (List ℕ)) → 1000 < length ss → month ss ≡ record { answer = Full; coverage = totals (take 1000 ss) }
+  pub full : (ss : List (List ℕ)) → 1000 < length ss → month ss ≡ record { answer = Err Full; coverage = totals (take 1000 ss) }
   -- the report is the same for any order of the listings
   pub any_order : (ss ts : List (List ℕ)) → length ss ≤ 1000 → Permᴰ ss ts → month ss ≡ month ts

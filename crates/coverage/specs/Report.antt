@@ -1,6 +1,6 @@
--- The report, what one listing adds to it, and what the call answers (document 02, R-12). `Coverage`, `Adding` and `Covered` are
+-- The report, what one listing adds to it, and what the call answers (document 02, R-12). `Coverage`, `AddError` and `Covered` are
 -- src/lib.rt's.
-use Rattle.std.specs.Prelude.{Bool, cond, ◌||◌, List, ℕ, ◌+◌, ◌*◌, eqb, leb, ltb, length, get_or, replicate}
+use Rattle.std.specs.Prelude.{Bool, cond, ◌||◌, List, ℕ, ◌+◌, ◌*◌, eqb, leb, ltb, length, get_or, replicate, Result, Ok, Err, ⊤}
 use Rattle.base.specs.Leading.{leading}
 use Rattle.base.specs.Lists.{tab}
 use Rattle.listing.specs.Words.{words_of}
@@ -12,8 +12,8 @@ use Rattle.reader.specs.declared.Reading.TheVariants.{Declined}
 use Rattle.reader.specs.declared.Verdict.{Verdict}
 use Rattle.reader.specs.declared.Verdict.TheVariants.{Sound, Faulty}
 use Rattle.coverage.specs.Tally.{frame_counts, sync_counts, page_counts, refused_counts}
-use Rattle.coverage.specs.declared.Adding.{Adding}
-use Rattle.coverage.specs.declared.Adding.TheVariants.{Added, OverLimit, Full}
+use Rattle.coverage.specs.declared.AddError.{AddError}
+use Rattle.coverage.specs.declared.AddError.TheVariants.{OverLimit, Full}
 use Rattle.coverage.specs.declared.Covered.{Covered}
 use Rattle.coverage.specs.declared.Coverage.{Coverage}
 
@@ -84,18 +84,18 @@ is_over c =
 -- a listing added to a report: 11, then 23 for one listing too many; a declined call leaves the report as it was
 unfoldable pub added_to : Coverage → List ℕ → Covered
 added_to c s =
-    cond (is_over c) (record { answer = OverLimit; coverage = c })
-    (cond (eqb c.listings 1000) (record { answer = Full; coverage = c })
-    (record { answer = Added; coverage = joined c (coverage_of s) }))
+    cond (is_over c) (record { answer = Err OverLimit; coverage = c })
+    (cond (eqb c.listings 1000) (record { answer = Err Full; coverage = c })
+    (record { answer = Ok tt; coverage = joined c (coverage_of s) }))
 
 -- the number of an answer in document 01's table, 0 where the listing is added
-abbrev pub number_of : Adding → ℕ
-number_of Added = 0
-number_of OverLimit = 11
-number_of Full = 23
+abbrev pub number_of : Result ⊤ AddError → ℕ
+number_of (Ok x) = 0
+number_of (Err OverLimit) = 11
+number_of (Err Full) = 23
 
 -- its place
-abbrev pub place_of : Adding → ℕ
-place_of Added = 0
-place_of OverLimit = 0
-place_of Full = 1001
+abbrev pub place_of : Result ⊤ AddError → ℕ
+place_of (Ok x) = 0
+place_of (Err OverLimit) = 0
+place_of (Err Full) = 1001

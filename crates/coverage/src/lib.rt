@@ -33,20 +33,19 @@ pub struct Coverage {
     pub pages: [u32; 16],
 }
 
-// What adding a listing answers.
-#[derive(Clone, Copy)]
-pub enum Adding {
-    Added,
+// Why a listing isn't added.
+#[derive(Clone, Copy, Debug, PartialEq, Eq)]
+pub enum AddError {
     // Number 11: over 1,000 listings, or a count over 600 times the listings.
     OverLimit,
     // Number 23: there are 1,000 listings already.
     Full,
 }
 
-// An answer, and the report then.
+// Whether a listing is added, and the report then.
 #[derive(Clone, Copy)]
 pub struct Covered {
-    pub answer: Adding,
+    pub answer: Result<(), AddError>,
     pub coverage: Coverage,
 }
 
@@ -301,42 +300,42 @@ pub fn add(c: Coverage, listing: &[u8]) -> Covered
 {
     if is_over(c) {
         return Covered {
-            answer: Adding::OverLimit,
+            answer: Err(AddError::OverLimit),
             coverage: c,
         };
     }
     if c.listings == 1000 {
         return Covered {
-            answer: Adding::Full,
+            answer: Err(AddError::Full),
             coverage: c,
         };
     }
     let next = add_listing(c, listing);
     Covered {
-        answer: Adding::Added,
+        answer: Ok(()),
         coverage: next,
     }
 }
 
 // The number of an answer in the table; 0 where the listing is added.
-pub fn number(a: Adding) -> u32
+pub fn number(a: Result<(), AddError>) -> u32
     ensures { result ≡ number_of a }
 {
     match a {
-        Adding::Added => 0,
-        Adding::OverLimit => 11,
-        Adding::Full => 23,
+        Ok(()) => 0,
+        Err(AddError::OverLimit) => 11,
+        Err(AddError::Full) => 23,
     }
 }
 
 // The place of an answer; 0 where the listing is added.
-pub fn place(a: Adding) -> usize
+pub fn place(a: Result<(), AddError>) -> usize
     ensures { result ≡ place_of a }
 {
     match a {
-        Adding::Added => 0,
-        Adding::OverLimit => 0,
-        Adding::Full => 1001,
+        Ok(()) => 0,
+        Err(AddError::OverLimit) => 0,
+        Err(AddError::Full) => 1001,
     }
 }
 
