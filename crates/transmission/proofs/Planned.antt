@@ -5,12 +5,12 @@ use mathlib.Core.List.{List}
 use native.Mathlib.Numerals.{add-one}
 use native.Mathlib.Omega.{arith}
 use lib.ListN.{length, get_or, length-map}
+use Rattle.std.specs.Prelude.{Ok}
 use Rattle.job.specs.Line.{kind_sent}
 use Rattle.job.specs.Message.{count_from}
 use Rattle.job.specs.Pages.{no_page, kind_at, digits_at}
 use Rattle.job.specs.Submission.{Submission}
 use Rattle.job.specs.Job.{job_of, reading_of}
-use Rattle.job.specs.declared.JobAnswer.TheVariants.{Accepted}
 use Rattle.job.specs.declared.Pages.{Pages}
 use Rattle.job.proofs.Accepted.{accepted_job}
 use Rattle.job.proofs.Message.{from_count}
@@ -22,7 +22,7 @@ use Rattle.transmission.proofs.Sendings.{sending_at_lem, frame_at, words_at, pag
 
 -- ---- page i as it was read
 
-module _ (s : Submission) (n : ℕ) (ok : job_of s ≡ Accepted n) {read : Pages} (e : read ≡ reading_of s) (i : ℕ) (h : i < n) where
+module _ (s : Submission) (n : ℕ) (ok : job_of s ≡ Ok n) {read : Pages} (e : read ≡ reading_of s) (i : ℕ) (h : i < n) where
   -- its sending
   pub page_sending : sending_of s (get_or read.pages i no_page) ≡ sending_at (sendings_of s) i
   page_sending = rw (e, ((accepted_job s n ok).page i h).read) (sym (sending_at_lem s i))
@@ -47,7 +47,7 @@ module _ (s : Submission) (n : ℕ) (ok : job_of s ≡ Accepted n) {read : Pages
 
 -- ---- page i by the plan
 
-module _ (s : Submission) (n : ℕ) (ok : job_of s ≡ Accepted n) {groups places : List ℕ} {room : ℕ} (plan : Planned (sendings_of s) groups places room) (i : ℕ) (h : i < n) where
+module _ (s : Submission) (n : ℕ) (ok : job_of s ≡ Ok n) {groups places : List ℕ} {room : ℕ} (plan : Planned (sendings_of s) groups places room) (i : ℕ) (h : i < n) where
   listed : i < length (sendings_of s)
   listed = omega (arith, sendings_count s n ok)
 

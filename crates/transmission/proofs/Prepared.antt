@@ -7,11 +7,11 @@ use native.Mathlib.Omega.{arith}
 use lib.ListN.{length, get_or, take, drop, replicate, length-map, length-replicate, get_or-append}
 use lib.Seq.{take_at}
 use borrow.Author.Tests.{lt-ltb, le-ltb}
+use Rattle.std.specs.Prelude.{Ok}
 use Rattle.base.specs.Lists.{over}
 use Rattle.base.proofs.ListLaws.{over_length}
 use Rattle.job.specs.Submission.{Submission}
 use Rattle.job.specs.Job.{job_of}
-use Rattle.job.specs.declared.JobAnswer.TheVariants.{Accepted}
 use Rattle.job.proofs.Accepted.{accepted_job}
 use Rattle.placement.specs.Placement.{is_sendable, batches, slot_of, slots, batches_in, slots_in}
 use Rattle.placement.proofs.Placed.{slots_length, slots_at}
@@ -27,7 +27,7 @@ use Rattle.transmission.proofs.TransmissionLaws.{transmission_length}
 
 -- what is known when the pages are placed, before a slice is tested: each page's number of groups and slot, and the number of batches
 pub record Prepared (s : Submission) (n : ℕ) (groups places : List ℕ) (b : ℕ) : Type 0 where
-  pub accepted : job_of s ≡ Accepted n
+  pub accepted : job_of s ≡ Ok n
   pub total : b ≡ batches (placement_of (sendings_of s))
   pub counted : groups ≡ counts_of (sendings_of s)
   pub placed : (i : ℕ) → i < length (sendings_of s) → get_or places i 0 ≡ slot_of (placement_of (sendings_of s)) i
@@ -36,7 +36,7 @@ pub record Prepared (s : Submission) (n : ℕ) (groups places : List ℕ) (b : �
 
 -- ---- the sendings' frames and counts can be sent, and there is room for them: placing them answers their batches and writes their slots
 
-module _ (s : Submission) (n : ℕ) (ok : job_of s ≡ Accepted n) {frames groups : List ℕ} (f : frames ≡ frames_of (sendings_of s)) (g : groups ≡ counts_of (sendings_of s)) where
+module _ (s : Submission) (n : ℕ) (ok : job_of s ≡ Ok n) {frames groups : List ℕ} (f : frames ≡ frames_of (sendings_of s)) (g : groups ≡ counts_of (sendings_of s)) where
   all_sendable : is_sendable frames groups ≡ true
   all_sendable = rw (f, g) (of_sendable (sendable (accepted_sendings s n ok)))
 

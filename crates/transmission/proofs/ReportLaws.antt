@@ -2,11 +2,11 @@
 use Prim.Native.Nat.{ℕ}
 use mathlib.Core.Path.{◌≡◌, refl, sym, ap, ◌∙◌}
 use mathlib.Core.List.{List}
+use Rattle.job.specs.Refusal.{JobAnswer, refused}
+use Rattle.std.specs.Prelude.{Ok, Err}
 use Rattle.job.specs.Submission.{Submission}
 use Rattle.job.specs.Job.{job_of, reading_of}
 use Rattle.job.specs.declared.Refusal.{Refusal}
-use Rattle.job.specs.declared.JobAnswer.{JobAnswer}
-use Rattle.job.specs.declared.JobAnswer.TheVariants.{Accepted, Refused}
 use Rattle.job.specs.declared.Pages.{Pages}
 use Rattle.job.proofs.Accepted.{answered}
 use Rattle.transmission.specs.Sending.{Sending, sendings_of}
@@ -18,11 +18,11 @@ pub read_answer : (s : Submission) {pages : Pages} {a : JobAnswer} → pages ≡
 read_answer s e q = sym (answered s) ∙ ap (λ (p : Pages). p.answer) (sym e) ∙ q
 
 module _ (s : Submission) (words slots : ℕ) where
-  pub report_declined : {why : Refusal} {place : ℕ} → job_of s ≡ Refused why place → Declined why place ≡ report_of s words slots
+  pub report_declined : {why : Refusal} {place : ℕ} → job_of s ≡ refused why place → Declined why place ≡ report_of s words slots
   unfolding report_of
   report_declined e = rw e
 
-  pub report_accepted : {n : ℕ} → job_of s ≡ Accepted n → sent_into (sendings_of s) words slots ≡ report_of s words slots
+  pub report_accepted : {n : ℕ} → job_of s ≡ Ok n → sent_into (sendings_of s) words slots ≡ report_of s words slots
   unfolding report_of
   report_accepted e = rw e
 

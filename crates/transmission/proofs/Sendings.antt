@@ -5,6 +5,7 @@ use mathlib.Core.Path.{◌≡◌, sym, ◌∙◌}
 use mathlib.Core.List.{List}
 use native.Mathlib.Omega.{arith}
 use lib.ListN.{length, length-map, get_or-map}
+use Rattle.std.specs.Prelude.{Ok}
 use Rattle.base.specs.Search.{sum}
 use Rattle.base.specs.Lists.{tab}
 use Rattle.job.specs.Line.{is_data, coding_of, kind_sent, function_of}
@@ -12,7 +13,6 @@ use Rattle.job.specs.Message.{count_from, groups_from}
 use Rattle.job.specs.Pages.{pages_of, no_page, page_at, kind_at, digits_at}
 use Rattle.job.specs.Submission.{Submission}
 use Rattle.job.specs.Job.{job_of}
-use Rattle.job.specs.declared.JobAnswer.TheVariants.{Accepted}
 use Rattle.job.proofs.Accepted.{accepted_job}
 use Rattle.job.proofs.Message.{from_count, from_small}
 use Rattle.placement.specs.Promise.{Placed, Limits}
@@ -75,7 +75,7 @@ sendings_limits a = limits (sendable a)
 
 -- ---- an accepted job's sendings are allowed
 
-module _ (s : Submission) (n : ℕ) (ok : job_of s ≡ Accepted n) where
+module _ (s : Submission) (n : ℕ) (ok : job_of s ≡ Ok n) where
   pub sendings_count : length (sendings_of s) ≡ n
   sendings_count = sendings_length s ∙ (accepted_job s n ok).pages
 

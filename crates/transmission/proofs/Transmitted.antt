@@ -8,6 +8,7 @@ use native.Mathlib.Nat.{eq-or-lt_of_le}
 use native.Mathlib.Omega.{arith}
 use lib.Dec.{eqb, ltb, leb}
 use borrow.Author.Tests.{ltb-true, lt-ltb, le-ltb, leb-true, leb-false, eq-eqb, ne_eqb}
+use Rattle.std.specs.Prelude.{Ok}
 use Rattle.base.specs.Search.{sum}
 use Rattle.base.proofs.Bools.{true_false, and_true, and_both}
 use Rattle.base.proofs.SearchLaws.{least_is, sum_cong, sum_zeros, sum_add}
@@ -17,7 +18,6 @@ use Rattle.codeword.proofs.CodeLaws.{codeword_front}
 use Rattle.job.specs.Line.{is_reserved}
 use Rattle.job.specs.Submission.{Submission}
 use Rattle.job.specs.Job.{job_of}
-use Rattle.job.specs.declared.JobAnswer.TheVariants.{Accepted}
 use Rattle.placement.specs.Placement.{Job, Framed, Content, is_message, state_at, content_at, all_out, ends_with, batches, slot_of}
 use Rattle.placement.specs.Promise.{Holds, nothing, its_address, its_message}
 use Rattle.placement.proofs.Bounds.{count, none_sent}
@@ -196,5 +196,5 @@ module _ (job : Job) (framed : Framed job) (c : Codewords) (coded : Coded job c)
 pub sendings_transmitted : {xs : List Sending} → AllAllowed xs → Transmitted (placement_of xs) (codewords_of xs)
 sendings_transmitted {xs} a = words_transmitted (placement_of xs) (sendable a).framed (codewords_of xs) (coded a)
 
-pub transmitted : (s : Submission) (n : ℕ) → job_of s ≡ Accepted n → Transmitted (placement_of (sendings_of s)) (codewords_of (sendings_of s))
+pub transmitted : (s : Submission) (n : ℕ) → job_of s ≡ Ok n → Transmitted (placement_of (sendings_of s)) (codewords_of (sendings_of s))
 transmitted s n ok = sendings_transmitted (accepted_sendings s n ok)

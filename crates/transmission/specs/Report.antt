@@ -1,10 +1,9 @@
 -- What sending a job answers, and what it leaves in the two lent slices.
-use Rattle.std.specs.Prelude.{ℕ, ◌≡◌, cond, ◌||◌, List, [], length, ltb}
+use Rattle.job.specs.Refusal.{JobAnswer}
+use Rattle.std.specs.Prelude.{ℕ, ◌≡◌, cond, ◌||◌, List, [], length, ltb, Ok, Err}
 use Rattle.job.specs.Submission.{Submission}
 use Rattle.job.specs.Job.{job_of}
 use Rattle.job.specs.Refusal as refusal
-use Rattle.job.specs.declared.JobAnswer.{JobAnswer}
-use Rattle.job.specs.declared.JobAnswer.TheVariants.{Accepted, Refused}
 use Rattle.placement.specs.Placement.{batches, slots}
 use Rattle.transmission.specs.Sending.{Sending, sendings_of, placement_of}
 use Rattle.transmission.specs.Transmission.{word_count, transmission_of}
@@ -19,8 +18,8 @@ sent_into xs words slots =
 
 -- the job's own refusal comes first; then number 10
 abbrev pub answered : JobAnswer → List Sending → ℕ → ℕ → Report
-answered (Refused why place) xs words slots = Declined why place
-answered (Accepted n) xs words slots = sent_into xs words slots
+answered (Err r) xs words slots = Declined r.why r.place
+answered (Ok n) xs words slots = sent_into xs words slots
 
 -- the report of a job
 unfoldable pub report_of : Submission → ℕ → ℕ → Report

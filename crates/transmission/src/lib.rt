@@ -1,7 +1,7 @@
 // A job's words: sending a job into lent slices (document 01, "Placement").
 #![tactic(auto)]
 
-ghost use Rattle.std.specs.Prelude.{◌≡◌, ◌+◌, ◌≤◌, ◌<◌, length};
+ghost use Rattle.std.specs.Prelude.{◌≡◌, Ok, ◌+◌, ◌≤◌, ◌<◌, length};
 ghost use Rattle.base.specs.Lists.{over, tab};
 ghost use Rattle.job.specs.Line.{kind_sent};
 ghost use Rattle.job.specs.Submission.{with_book};
@@ -13,7 +13,7 @@ ghost use Rattle.transmission.specs.Report.{sent_into, report_of, words_sent, sl
 ghost use Rattle.transmission.specs.Writing.{Planned, blank_at, with_sending};
 
 use codeword::Codeword;
-use job::{JobAnswer, Page, Pages, Refusal};
+use job::{Page, Pages, Refusal, Refused};
 
 // A word of the preamble.
 const PREAMBLE: u32 = 0xAAAA_AAAA;
@@ -38,10 +38,7 @@ pub fn number(r: Report) -> u32
             batches: _,
             words: _,
         } => 0,
-        Report::Declined { why, place } => job::number(JobAnswer::Refused {
-            why: why,
-            place: place,
-        }),
+        Report::Declined { why, place } => job::number(Err(Refused { why, place })),
         Report::NoRoom => 10,
     }
 }
@@ -69,10 +66,7 @@ pub fn position(r: Report) -> usize
             batches: _,
             words: _,
         } => 0,
-        Report::Declined { why, place } => job::position(JobAnswer::Refused {
-            why: why,
-            place: place,
-        }),
+        Report::Declined { why, place } => job::position(Err(Refused { why, place })),
         Report::NoRoom => 0,
     }
 }
@@ -183,7 +177,7 @@ fn write_pages<'a>(
     words: &mut [u32],
 )
     requires read_value { read ≡ reading_of (with_book job.now book.now) }
-    requires book_value { job_of (with_book job.now book.now) ≡ JobAnswer.Accepted n }
+    requires book_value { job_of (with_book job.now book.now) ≡ Ok n }
     requires planned { Planned (sendings_of (with_book job.now book.now)) groups.now places.now (length words.old) }
     ensures { words.new ≡ transmission_of (sendings_of (with_book job.now book.now)) }
 {
@@ -219,7 +213,7 @@ fn send_pages<'a>(
     slots: &mut [u32],
 ) -> Report
     requires read_value { read ≡ reading_of (with_book job.now book.now) }
-    requires book_value { job_of (with_book job.now book.now) ≡ JobAnswer.Accepted n }
+    requires book_value { job_of (with_book job.now book.now) ≡ Ok n }
     ensures value { result ≡ sent_into (sendings_of (with_book job.now book.now)) (length words.old) (length slots.old) }
     ensures words_after { words.new ≡ over words.old (words_sent result (sendings_of (with_book job.now book.now))) }
     ensures slots_after { slots.new ≡ over slots.old (slots_sent result (sendings_of (with_book job.now book.now))) }
@@ -271,10 +265,7 @@ pub fn send<'a>(job: &'a [u8], book: &'a [u8], words: &mut [u32], slots: &mut [u
     let read = job::read_job(job, book);
     let answer = read.answer;
     match answer {
-        JobAnswer::Refused { why, place } => Report::Declined {
-            why: why,
-            place: place,
-        },
-        JobAnswer::Accepted(n) => send_pages(job, book, read, n, words, slots),
+        Err(Refused { why, place }) => Report::Declined { why, place },
+        Ok(n) => send_pages(job, book, read, n, words, slots),
     }
 }

@@ -4,10 +4,10 @@ use mathlib.Core.List.{List}
 use native.Mathlib.Omega.{arith}
 use lib.ListN.{length, get_or, take, drop, replicate, length-map}
 use lib.Seq.{take_at, length-take-le}
+use Rattle.std.specs.Prelude.{Ok}
 use Rattle.base.proofs.ListLaws.{filled, filled_turn, filled_over, filled_length}
 use Rattle.job.specs.Submission.{Submission, with_book}
 use Rattle.job.specs.Job.{job_of}
-use Rattle.job.specs.declared.JobAnswer.TheVariants.{Accepted}
 use Rattle.job.proofs.Accepted.{accepted_job}
 use Rattle.transmission.specs.Sending.{Sending, sendings_of, frames_of, counts_of}
 use Rattle.transmission.proofs.Sendings.{words_at, sendings_count, accepted_sendings}
@@ -17,10 +17,10 @@ use Rattle.transmission.proofs.send_pages.Goals.{After-groups, After-place-batch
 use Rattle.transmission.proofs.send_pages.Goals as goal
 
 -- there are n frames and n counts
-frames-count : (s : Submission) (n : ℕ) → job_of s ≡ Accepted n → length (frames_of (sendings_of s)) ≡ n
+frames-count : (s : Submission) (n : ℕ) → job_of s ≡ Ok n → length (frames_of (sendings_of s)) ≡ n
 frames-count s n ok = length-map (sendings_of s) (λ (x : Sending). x.identity % 8) ∙ sendings_count s n ok
 
-counts-count : (s : Submission) (n : ℕ) → job_of s ≡ Accepted n → length (counts_of (sendings_of s)) ≡ n
+counts-count : (s : Submission) (n : ℕ) → job_of s ≡ Ok n → length (counts_of (sendings_of s)) ≡ n
 counts-count s n ok = length-map (sendings_of s) (λ (x : Sending). length x.groups) ∙ sendings_count s n ok
 
 -- the number of groups of page k
@@ -35,14 +35,14 @@ passed old new n {xs} {i} e q h k =
     let last : i ≡ length new = omega arith in
     ap (take n) (q ∙ ap (filled old new) last ∙ filled_over old new) ∙ take_at new (drop (length new) old) n e
 
-all-frames : (s : Submission) (n : ℕ) → job_of s ≡ Accepted n → {xs : List ℕ} {k : ℕ} → xs ≡ filled (replicate 48 0) (frames_of (sendings_of s)) k → k ≤ n → n ≤ k → take n xs ≡ frames_of (sendings_of s)
+all-frames : (s : Submission) (n : ℕ) → job_of s ≡ Ok n → {xs : List ℕ} {k : ℕ} → xs ≡ filled (replicate 48 0) (frames_of (sendings_of s)) k → k ≤ n → n ≤ k → take n xs ≡ frames_of (sendings_of s)
 all-frames s n ok q h last = passed (replicate 48 0) (frames_of (sendings_of s)) n (frames-count s n ok) q h last
 
-all-counts : (s : Submission) (n : ℕ) → job_of s ≡ Accepted n → {xs : List ℕ} {k : ℕ} → xs ≡ filled (replicate 48 0) (counts_of (sendings_of s)) k → k ≤ n → n ≤ k → take n xs ≡ counts_of (sendings_of s)
+all-counts : (s : Submission) (n : ℕ) → job_of s ≡ Ok n → {xs : List ℕ} {k : ℕ} → xs ≡ filled (replicate 48 0) (counts_of (sendings_of s)) k → k ≤ n → n ≤ k → take n xs ≡ counts_of (sendings_of s)
 all-counts s n ok q h last = passed (replicate 48 0) (counts_of (sendings_of s)) n (counts-count s n ok) q h last
 
 -- an array filled with counts keeps its length
-long-counts : (s : Submission) (n : ℕ) → job_of s ≡ Accepted n → n ≤ 48 → {xs : List ℕ} {k : ℕ} → xs ≡ filled (replicate 48 0) (counts_of (sendings_of s)) k → k ≤ n → n ≤ length xs
+long-counts : (s : Submission) (n : ℕ) → job_of s ≡ Ok n → n ≤ 48 → {xs : List ℕ} {k : ℕ} → xs ≡ filled (replicate 48 0) (counts_of (sendings_of s)) k → k ≤ n → n ≤ length xs
 long-counts s n ok most {xs} {k} q h =
     omega (arith, ap length q, filled_length (replicate 48 0) (counts_of (sendings_of s)) k (omega arith) (omega (arith, counts-count s n ok)))
 
