@@ -11,6 +11,7 @@ use lib.Pow.{field, mod-mod-pow}
 use lib.ListN.{length, get_or, take, drop, length-drop, length-map, get_or-map}
 use lib.Seq.{length-take-le, take-length}
 use borrow.Author.Tests.{le-ltb, le-leb, lt-leb}
+use Rattle.std.specs.Prelude.{Option, Some, None}
 use Rattle.base.specs.Hex.{digits_of, pairs_of}
 use Rattle.base.specs.Lists.{over, tab}
 use Rattle.base.proofs.HexLaws.{pairs_length}
@@ -24,8 +25,6 @@ use Rattle.text.proofs.BitLaws.{low_same, cut_bit}
 use Rattle.text.proofs.FivesBack.{fives_length}
 use Rattle.text.proofs.HeardLaws.{heard_fits}
 use Rattle.job.specs.Print.{ending, printed, printing_of, bytes_printed}
-use Rattle.job.specs.declared.Printing.{Printing}
-use Rattle.job.specs.declared.Printing.TheVariants.{Printed, NoRoom}
 use Rattle.job.proofs.PrintLaws.{spaced_few, ending_few, printed_length}
 use Rattle.placement.specs.Placement.{frame_of}
 use Rattle.reader.specs.Reading.{Hearing, closed_as}
@@ -64,12 +63,12 @@ unfolding room_for
 room_enough digits room h d r = rw (le-leb (10 * length h.groups) digits d, le-leb (11 * (length h.groups + 1)) room r)
 
 -- a line that there is room for is printed
-line_printed : (old line : List ℕ) {given out : List ℕ} {answer : Printing} → length line ≤ length old → given ≡ line
-    → answer ≡ printing_of (length old) given → out ≡ over old (take (bytes_printed answer) given) → (answer ≡ Printed (length line)) × (out ≡ over old line)
+line_printed : (old line : List ℕ) {given out : List ℕ} {answer : Option ℕ} → length line ≤ length old → given ≡ line
+    → answer ≡ printing_of (length old) given → out ≡ over old (take (bytes_printed answer) given) → (answer ≡ Some (length line)) × (out ≡ over old line)
 line_printed old line h e a o =
-    let printed : printing_of (length old) line ≡ Printed (length line) = rw (le-ltb (length old) (length line) h) in
+    let printed : printing_of (length old) line ≡ Some (length line) = rw (le-ltb (length old) (length line) h) in
     let all = a ∙ ap (printing_of (length old)) e ∙ printed in
-    (all, o ∙ ap (over old) (ap₂ (λ (p : Printing) (l : List ℕ). take (bytes_printed p) l) all e ∙ take-length line))
+    (all, o ∙ ap (over old) (ap₂ (λ (p : Option ℕ) (l : List ℕ). take (bytes_printed p) l) all e ∙ take-length line))
 
 module _ (old out : List ℕ) (h : Hearing) where
   -- with too few digits or bytes nothing is written
@@ -83,12 +82,12 @@ module _ (old out : List ℕ) (h : Hearing) where
       rw (le-leb (10 * length h.groups) (length old) (omega arith), lt-leb (11 * (length h.groups + 1)) (length out) (omega arith))
 
   pub nothing_heard : room_for (length old) (length out) h ≡ false
-      → (NoRoom ≡ printing_heard (length old) (length out) h)
+      → (None ≡ printing_heard (length old) (length out) h)
       × ((old ≡ over old (digits_written (length old) (length out) h)) × (out ≡ over out (line_written (length old) (length out) h)))
   nothing_heard e = rw e (refl, (refl, refl))
 
   -- with enough of both the digits of its text are written and its line is printed
-  pub page_heard : {answer : Printing} {given digits bytes : List ℕ} → length h.groups ≤ length old / 10 → length h.groups < length out / 11
+  pub page_heard : {answer : Option ℕ} {given digits bytes : List ℕ} → length h.groups ≤ length old / 10 → length h.groups < length out / 11
       → given ≡ line_heard h → digits ≡ over old (digits_heard h.function h.groups)
       → answer ≡ printing_of (length out) given → bytes ≡ over out (take (bytes_printed answer) given)
       → (answer ≡ printing_heard (length old) (length out) h)
@@ -98,9 +97,9 @@ module _ (old out : List ℕ) (h : Hearing) where
       rw (room_enough (length old) (length out) h (omega arith) (omega arith)) (there.0, (w, there.1))
 
   -- what a caller has who lends enough of both
-  pub heard_whole : {answer : Printing} {bytes : List ℕ} → 10 * length h.groups ≤ length old → 11 * (length h.groups + 1) ≤ length out
+  pub heard_whole : {answer : Option ℕ} {bytes : List ℕ} → 10 * length h.groups ≤ length old → 11 * (length h.groups + 1) ≤ length out
       → answer ≡ printing_heard (length old) (length out) h → bytes ≡ over out (line_written (length old) (length out) h)
-      → (answer ≡ Printed (length (line_heard h))) × (bytes ≡ over out (line_heard h))
+      → (answer ≡ Some (length (line_heard h))) × (bytes ≡ over out (line_heard h))
   heard_whole d r a o = let enough = room_enough (length old) (length out) h d r in (rw enough at a, rw enough at o)
 
 -- ---- a message word's symbol in the place of its group
@@ -172,9 +171,9 @@ module _ (symbols : List ℕ) (a s : ℕ) (cut : Bool) where
     page_short = omega (arith, lines_short (closed_as cut (page_in symbols a s)), length-map words (λ x. x % 2 ^ 20), count)
 
     -- with room for its slots it is printed
-    pub page_printed : (old out : List ℕ) {answer : Printing} {bytes : List ℕ} → 10 * (s - a) ≤ length old → 11 * (s - a) ≤ length out
+    pub page_printed : (old out : List ℕ) {answer : Option ℕ} {bytes : List ℕ} → 10 * (s - a) ≤ length old → 11 * (s - a) ≤ length out
         → answer ≡ printing_heard (length old) (length out) heard → bytes ≡ over out (line_written (length old) (length out) heard)
-        → (answer ≡ Printed (length line)) × (bytes ≡ over out line)
+        → (answer ≡ Some (length line)) × (bytes ≡ over out line)
     page_printed old out d r a o =
         let there = heard_whole old out heard (omega (arith, count)) (omega (arith, count)) a o in
-        (there.0 ∙ ap (λ (l : List ℕ). Printed (length l)) page_line_lem, there.1 ∙ ap (over out) page_line_lem)
+        (there.0 ∙ ap (λ (l : List ℕ). Some (length l)) page_line_lem, there.1 ∙ ap (over out) page_line_lem)

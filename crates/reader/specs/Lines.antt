@@ -1,11 +1,9 @@
 -- The page lines of what was heard (document 01, "Page lines").
-use Rattle.std.specs.Prelude.{◌≡◌, Bool, true, cond, ◌&&◌, List, [], ◌∷◌, ◌++◌, ℕ, ◌+◌, ◌*◌, ◌%◌, ◌≤◌, eqb, leb, length}
+use Rattle.std.specs.Prelude.{◌≡◌, Bool, true, cond, ◌&&◌, List, [], ◌∷◌, ◌++◌, ℕ, ◌+◌, ◌*◌, ◌%◌, ◌≤◌, eqb, leb, length, Option, Some, None}
 use Rattle.text.specs.Answer.{heard_digits}
 use Rattle.text.specs.Fives.{fives}
 use Rattle.text.specs.declared.Coding.TheVariants.{Numeric, Alphanumeric}
 use Rattle.job.specs.Print.{printed}
-use Rattle.job.specs.declared.Printing.{Printing}
-use Rattle.job.specs.declared.Printing.TheVariants.{Printed, NoRoom}
 use Rattle.reader.specs.Reading.{Hearing}
 
 -- without a message word the kind is the function; else function 0 is kind 4, 3 is 5, and 1 and 2 are 6 and 7
@@ -45,8 +43,8 @@ unfoldable pub room_for : ℕ → ℕ → Hearing → Bool
 room_for digits room h = leb (10 * length h.groups) digits && leb (11 * (length h.groups + 1)) room
 
 -- printing its line with so many digits lent and into room for so many bytes: its length, or number 10
-abbrev pub printing_heard : ℕ → ℕ → Hearing → Printing
-printing_heard digits room h = cond (room_for digits room h) (Printed (length (line_heard h))) NoRoom
+abbrev pub printing_heard : ℕ → ℕ → Hearing → Option ℕ
+printing_heard digits room h = cond (room_for digits room h) (Some (length (line_heard h))) None
 
 -- what is written over the digits: those of its text, or nothing
 abbrev pub digits_written : ℕ → ℕ → Hearing → List ℕ

@@ -18,7 +18,6 @@ ghost use Rattle.reader.specs.Progress.{Buffers, Room, Messages, Idles, Quiet, w
 ghost use Rattle.reader.specs.declared.Verdict.TheVariants.{Sound};
 
 use codeword::{Codeword, Corrected, Engine};
-use job::Printing;
 use text::{Coding, Digits};
 
 // What a received word says.
@@ -262,16 +261,16 @@ pub fn print_heard(
     cut: bool,
     digits: &mut [u8],
     out: &mut [u8],
-) -> Printing
+) -> Option<usize>
     ensures value { result ≡ printing_heard (length digits.old) (length out.old) (heard_page identity function groups.now cut) }
     ensures digits_after { digits.new ≡ over digits.old (digits_written (length digits.old) (length out.old) (heard_page identity function groups.now cut)) }
     ensures out_after { out.new ≡ over out.old (line_written (length digits.old) (length out.old) (heard_page identity function groups.now cut)) }
 {
     if digits.len() / 10 < groups.len() {
-        return Printing::NoRoom;
+        return None;
     }
     if out.len() / 11 <= groups.len() {
-        return Printing::NoRoom;
+        return None;
     }
     let function = (function % 4) as u8;
     let n = write_page(function, groups, digits);
@@ -298,7 +297,7 @@ fn print_page(
     let identity = address / 4 * 8 + frame;
     let first = a + 1;
     let groups = &symbols[first..s];
-    let Printing::Printed(bytes) = print_heard(identity, address, groups, cut, digits, out) else {
+    let Some(bytes) = print_heard(identity, address, groups, cut, digits, out) else {
         return 0;
     };
     bytes
