@@ -19,7 +19,7 @@ use Rattle.reader.specs.declared.Meaning.TheVariants.{Lost, Idle, Address, Messa
 use Rattle.reader.proofs.Laws.{addressed}
 use Rattle.follower.specs.Pages.{of_identity, pages_for}
 use Rattle.follower.specs.Following.{onward, followed, opened_by, pages_from, own_said, own_at, own_page, own_opened, own_from, slot_count, Follows}
-use Rattle.follower.specs.declared.Own.TheVariants.{Page, Nothing}
+use Rattle.std.specs.declared.option.Option.TheVariants.{Some, None}
 
 -- ---- all pages
 
@@ -103,7 +103,7 @@ module _ (word : ℕ → ℕ) where
     one e = passing_one (λ (h : Hearing). eqb h.identity i) page e
 
     address_own : u % 8 ≡ 0 → (frame upper : Bool) → eqb (frame_of s) (i % 8) ≡ frame → eqb u (i / 8 * 8) ≡ upper
-        → of_identity i (page ∷ []) ≡ own_opened i word s k (cond frame (cond upper (Page f) Nothing) Nothing)
+        → of_identity i (page ∷ []) ≡ own_opened i word s k (cond frame (cond upper (Some f) None) None)
     address_own low true true p q =
         let e : u + frame_of s ≡ i = omega (arith, eqb-true (frame_of s) (i % 8) p, eqb-true u (i / 8 * 8) q) in
         one (eq-eqb page.identity i (is ∙ e)) ∙ ap (λ (j : ℕ). followed word (suc s) k (own_page j f) ∷ []) e
@@ -112,12 +112,12 @@ module _ (word : ℕ → ℕ) where
 
   -- the page of a slot
   module _ (i s k : ℕ) where
-    nothing_own : (frame : Bool) → [] ≡ own_opened i word s k (cond frame Nothing Nothing)
+    nothing_own : (frame : Bool) → [] ≡ own_opened i word s k (cond frame None None)
     nothing_own true = refl
     nothing_own false = refl
 
     opened_own : (m : Meaning) → ((u f : ℕ) → m ≡ Address u f → u % 8 ≡ 0)
-        → of_identity i (opened_by word s k m) ≡ own_opened i word s k (cond (eqb (frame_of s) (i % 8)) (own_said i m) Nothing)
+        → of_identity i (opened_by word s k m) ≡ own_opened i word s k (cond (eqb (frame_of s) (i % 8)) (own_said i m) None)
     unfolding passing
     opened_own Lost low = nothing_own (eqb (frame_of s) (i % 8))
     opened_own Idle low = nothing_own (eqb (frame_of s) (i % 8))

@@ -16,29 +16,30 @@ use Rattle.reader.specs.declared.Meaning.{Meaning}
 use Rattle.reader.specs.declared.Meaning.TheVariants.{Lost, Idle, Address, Message}
 use Rattle.reader.proofs.Laws.{addressed}
 use Rattle.follower.specs.Following.{followed, own_said, own_at, own_page, own_from}
-use Rattle.follower.specs.declared.Own.TheVariants.{Page, Nothing}
+use Rattle.std.specs.declared.option.Option as option
+use Rattle.std.specs.declared.option.Option.TheVariants.{Some, None}
 
 -- ---- what a slot is to the identity
 
 -- by an address's upper bits
-pub upper_own : (i u f : ℕ) → u ≡ i / 8 * 8 → Page f ≡ own_said i (Address u f)
+pub upper_own : (i u f : ℕ) → u ≡ i / 8 * 8 → Some f ≡ own_said i (Address u f)
 upper_own i u f e = rw (eq-eqb u (i / 8 * 8) e)
 
-pub upper_other : (i u f : ℕ) → (u ≡ i / 8 * 8 → ⊥) → Nothing ≡ own_said i (Address u f)
+pub upper_other : (i u f : ℕ) → (u ≡ i / 8 * 8 → ⊥) → None ≡ own_said i (Address u f)
 upper_other i u f e = rw (ne_eqb u (i / 8 * 8) e)
 
 -- its function has two bits
-said_bits : (i f : ℕ) (m : Meaning) → ((u g : ℕ) → m ≡ Address u g → g < 4) → own_said i m ≡ Page f → f < 4
+said_bits : (i f : ℕ) (m : Meaning) → ((u g : ℕ) → m ≡ Address u g → g < 4) → own_said i m ≡ Some f → f < 4
 said_bits i f Lost h e = let z : ◌≡◌ {A = ℕ} 0 1 = cc in absurd (omega arith)
 said_bits i f Idle h e = let z : ◌≡◌ {A = ℕ} 0 1 = cc in absurd (omega arith)
 said_bits i f (Message b) h e = let z : ◌≡◌ {A = ℕ} 0 1 = cc in absurd (omega arith)
 said_bits i f (Address u g) h e = go (eqb u (i / 8 * 8)) (h u g refl) e
   where
-    go : (b : Bool) → g < 4 → cond b (Page g) Nothing ≡ Page f → f < 4
+    go : (b : Bool) → g < 4 → cond b (Some g) None ≡ Some f → f < 4
     go true l e = let same : g ≡ f = cc in omega arith
     go false l e = let z : ◌≡◌ {A = ℕ} 0 1 = cc in absurd (omega arith)
 
-pub said_function : (i : ℕ) (o : Option ℕ) (f : ℕ) → own_said i (meaning o) ≡ Page f → f < 4
+pub said_function : (i : ℕ) (o : Option ℕ) (f : ℕ) → own_said i (meaning o) ≡ Some f → f < 4
 said_function i o f e = said_bits i f (meaning o) (λ u g q. (addressed o u g q).function) e
 
 module _ (i : ℕ) (word : ℕ → ℕ) (s : ℕ) where
@@ -48,24 +49,24 @@ module _ (i : ℕ) (word : ℕ → ℕ) (s : ℕ) where
   own_frame e = rw (eq-eqb (frame_of s) (i % 8) e)
 
   -- one of another frame is nothing
-  pub other_frame : (frame_of s ≡ i % 8 → ⊥) → own_at i word s ≡ Nothing
+  pub other_frame : (frame_of s ≡ i % 8 → ⊥) → own_at i word s ≡ None
   unfolding own_at
   other_frame n = rw (ne_eqb (frame_of s) (i % 8) n)
 
   -- a message word is nothing in any frame
-  pub message_none : {b : ℕ} → meaning (nearest (word s)) ≡ Message b → own_at i word s ≡ Nothing
+  pub message_none : {b : ℕ} → meaning (nearest (word s)) ≡ Message b → own_at i word s ≡ None
   unfolding own_at
   message_none m = rw m (same (eqb (frame_of s) (i % 8)))
     where
-      same : (b : Bool) → cond b Nothing Nothing ≡ Nothing
+      same : (b : Bool) → ◌≡◌ {A = option.Option ℕ} (cond b None None) None
       same true = refl
       same false = refl
 
-  pub own_function : (f : ℕ) → own_at i word s ≡ Page f → f < 4
+  pub own_function : (f : ℕ) → own_at i word s ≡ Some f → f < 4
   unfolding own_at
   own_function f = go (eqb (frame_of s) (i % 8))
     where
-      go : (b : Bool) → cond b (own_said i (meaning (nearest (word s)))) Nothing ≡ Page f → f < 4
+      go : (b : Bool) → cond b (own_said i (meaning (nearest (word s)))) None ≡ Some f → f < 4
       go true e = said_function i (nearest (word s)) f e
       go false e = let z : ◌≡◌ {A = ℕ} 0 1 = cc in absurd (omega arith)
 
@@ -98,7 +99,7 @@ module _ (word : ℕ → ℕ) (e n : ℕ) where
     address_on h m = rw (more, m)
 
     -- no page of identity i opens
-    pub none_on : (i : ℕ) → own_at i word e ≡ Nothing → own_from i word e (n - e) ≡ own_from i word (e + 1) behind
+    pub none_on : (i : ℕ) → own_at i word e ≡ None → own_from i word e (n - e) ≡ own_from i word (e + 1) behind
     unfolding own_from
     none_on i o = rw (more, add-one e, o)
 
@@ -106,7 +107,7 @@ module _ (word : ℕ → ℕ) (e n : ℕ) where
     message_past i m = none_on i (message_none i word e m)
 
     -- one opens
-    pub own_on : (i : ℕ) {f : ℕ} → own_at i word e ≡ Page f → own_from i word e (n - e) ≡ followed word (e + 1) behind (own_page i f) ∷ own_from i word (e + 1) behind
+    pub own_on : (i : ℕ) {f : ℕ} → own_at i word e ≡ Some f → own_from i word e (n - e) ≡ followed word (e + 1) behind (own_page i f) ∷ own_from i word (e + 1) behind
     unfolding own_from
     own_on i o = rw (more, add-one e, o)
 

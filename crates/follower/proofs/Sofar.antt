@@ -13,7 +13,7 @@ use Rattle.reader.proofs.Laws.{lines_more}
 use Rattle.follower.specs.Pages.{pages_for}
 use Rattle.follower.specs.Following.{own_at, own_from, slot_count}
 use Rattle.follower.specs.Progress.{InFrame, page_at, Printed, Kept}
-use Rattle.follower.specs.declared.Own.TheVariants.{Page, Nothing}
+use Rattle.std.specs.declared.option.Option.TheVariants.{Some, None}
 use Rattle.follower.specs.declared.Line.{Line}
 use Rattle.follower.proofs.Follows.{follows}
 use Rattle.follower.proofs.SlotLaws.{none_on, own_on, own_end}
@@ -62,7 +62,7 @@ module _ (i : ℕ) (words old : List ℕ) where
     sofar_skip r f = later r f.on (skipped i (slot_word words) (slot_count words) s r f)
 
     -- the slot is none of the identity's
-    pub sofar_next : s < slot_count words → own_at i (slot_word words) s ≡ Nothing → Sofar i words old count bytes (s + 1) lines
+    pub sofar_next : s < slot_count words → own_at i (slot_word words) s ≡ None → Sofar i words old count bytes (s + 1) lines
     sofar_next l o = later (s + 1) (omega arith) (none_on (slot_word words) s (slot_count words) l i o)
 
     module _ (space : 11 * slot_count words ≤ length old) where
@@ -74,7 +74,7 @@ module _ (i : ℕ) (words old : List ℕ) where
       sofar_room = omega (arith, x.short, sofar_length)
 
       -- a page opens in it, and its line is printed behind the others
-      pub sofar_page : {f : ℕ} {p : List ℕ} {r : Line} → s < slot_count words → own_at i (slot_word words) s ≡ Page f
+      pub sofar_page : {f : ℕ} {p : List ℕ} {r : Line} → s < slot_count words → own_at i (slot_word words) s ≡ Some f
           → Printed i f words s (take (length lines - bytes) (drop bytes lines)) p r
           → Sofar i words old (count + 1) (bytes + r.bytes) r.end (take bytes lines ++ (p ++ drop (length lines - bytes) (drop bytes lines)))
       sofar_page {f} {r = r} l o y =

@@ -1,7 +1,6 @@
 -- How the code goes: a page is its address and the run of message words behind it, and those of one identity have their addresses in the
 -- slots of its frame. `follows` in proofs/Follows.antt proves that this comes to what the full reader hears. No public promise needs it.
--- `Own` is src/lib.rt's enum.
-use Rattle.std.specs.Prelude.{◌≡◌, true, false, cond, List, [], ◌∷◌, ◌++◌, ℕ, zero, suc, ◌*◌, ◌/◌, ◌%◌, eqb, length}
+use Rattle.std.specs.Prelude.{◌≡◌, true, false, cond, List, [], ◌∷◌, ◌++◌, Option, Some, None, ℕ, zero, suc, ◌*◌, ◌/◌, ◌%◌, eqb, length}
 use Rattle.codeword.specs.Nearest.{nearest}
 use Rattle.placement.specs.Placement.{frame_of}
 use Rattle.reader.specs.Meaning.{meaning}
@@ -9,8 +8,6 @@ use Rattle.reader.specs.Reading.{Hearing, opened, extended, closed_as, slot_word
 use Rattle.reader.specs.declared.Meaning.{Meaning}
 use Rattle.reader.specs.declared.Meaning.TheVariants.{Lost, Idle, Address, Message}
 use Rattle.follower.specs.Pages.{pages_for}
-use Rattle.follower.specs.declared.Own.{Own}
-use Rattle.follower.specs.declared.Own.TheVariants.{Page, Nothing}
 
 -- ---- all pages, for any slot words
 
@@ -40,25 +37,25 @@ pages_from word s (suc k) = opened_by word s k (meaning (nearest (word s))) ++ p
 
 -- ---- those of one identity
 
--- what a word of identity i's frame that says this is to it: by its upper bits, its address or nothing
-abbrev pub own_said : ℕ → Meaning → Own
-own_said i Lost = Nothing
-own_said i Idle = Nothing
-own_said i (Address u f) = cond (eqb u (i / 8 * 8)) (Page f) Nothing
-own_said i (Message b) = Nothing
+-- the function of identity i's page that a word of its frame that says this opens, by its upper bits, if any
+abbrev pub own_said : ℕ → Meaning → Option ℕ
+own_said i Lost = None
+own_said i Idle = None
+own_said i (Address u f) = cond (eqb u (i / 8 * 8)) (Some f) None
+own_said i (Message b) = None
 
--- what slot s is to identity i: the word of a slot of another frame is not asked for
-unfoldable pub own_at : ℕ → (ℕ → ℕ) → ℕ → Own
-own_at i word s = cond (eqb (frame_of s) (i % 8)) (own_said i (meaning (nearest (word s)))) Nothing
+-- that of the page that slot s opens, if any: the word of a slot of another frame is not asked for
+unfoldable pub own_at : ℕ → (ℕ → ℕ) → ℕ → Option ℕ
+own_at i word s = cond (eqb (frame_of s) (i % 8)) (own_said i (meaning (nearest (word s)))) None
 
 -- a page of identity i that has just opened
 abbrev pub own_page : ℕ → ℕ → Hearing
 own_page i f = record { identity = i; function = f; groups = []; cut = false }
 
--- the page of identity i, if any, that opens in slot s, which is this to it, with k slots behind it
-abbrev pub own_opened : ℕ → (ℕ → ℕ) → ℕ → ℕ → Own → List Hearing
-own_opened i word s k (Page f) = followed word (suc s) k (own_page i f) ∷ []
-own_opened i word s k Nothing = []
+-- the page of identity i, if any, that slot s opens with this function, with k slots behind it
+abbrev pub own_opened : ℕ → (ℕ → ℕ) → ℕ → ℕ → Option ℕ → List Hearing
+own_opened i word s k (Some f) = followed word (suc s) k (own_page i f) ∷ []
+own_opened i word s k None = []
 
 -- the pages of identity i that open in the k slots from slot s on
 unfoldable pub own_from : ℕ → (ℕ → ℕ) → ℕ → ℕ → List Hearing

@@ -42,14 +42,6 @@ pub enum Following {
     Declined(Refusal),
 }
 
-// What a slot of its frame is to the identity.
-#[derive(Clone, Copy)]
-enum Own {
-    // Its address, with this function.
-    Page(u32),
-    Nothing,
-}
-
 // The slot behind a message's last word, and whether the message is cut short there.
 #[derive(Clone, Copy)]
 struct Message {
@@ -87,22 +79,14 @@ fn next_in_frame(frame: usize, s: usize) -> usize
     first + 16
 }
 
-// Whether slot s, which is in the identity's frame, holds its address.
-fn own_page(identity: u32, words: &[u32], s: usize) -> Own
+// The function of the identity's page whose address is in slot s of its frame; None where the slot holds no address of its own.
+fn own_page(identity: u32, words: &[u32], s: usize) -> Option<u32>
     requires { s < slot_count words.now }
     ensures { result ≡ own_said identity (meaning (nearest (slot_word words.now s))) }
 {
-    let m = reader::word_meaning(Engine::Fast, words[17 * (s / 16) + 1 + s % 16]);
-    match m {
-        Meaning::Lost => Own::Nothing,
-        Meaning::Idle => Own::Nothing,
-        Meaning::Address(upper, function) => {
-            if upper != identity / 8 * 8 {
-                return Own::Nothing;
-            }
-            Own::Page(function)
-        }
-        Meaning::Message(_) => Own::Nothing,
+    match reader::word_meaning(Engine::Fast, words[17 * (s / 16) + 1 + s % 16]) {
+        Meaning::Address(upper, function) if upper == identity / 8 * 8 => Some(function),
+        _ => None,
     }
 }
 
@@ -113,20 +97,18 @@ fn follow_message(words: &[u32], s: usize, groups: &mut [u32]) -> Message
     ensures { Ran words.now s groups.new result }
 {
     let slots = 16 * (words.len() / 17);
-    let mut e = s;
-    while e < slots {
-        let m = reader::word_meaning(Engine::Fast, words[17 * (e / 16) + 1 + e % 16]);
-        match m {
+    for e in s..slots {
+        match reader::word_meaning(Engine::Fast, words[17 * (e / 16) + 1 + e % 16]) {
+            Meaning::Message(group) => groups[e - s] = group,
             Meaning::Lost => return Message { end: e, cut: true },
             Meaning::Idle => return Message { end: e, cut: false },
             Meaning::Address(_, _) => return Message { end: e, cut: false },
-            Meaning::Message(group) => {
-                groups[e - s] = group;
-            }
         }
-        e += 1;
     }
-    Message { end: e, cut: false }
+    Message {
+        end: slots,
+        cut: false,
+    }
 }
 
 // Follows the page of the identity whose address is in slot s, and prints its line over the front of the bytes.
@@ -143,9 +125,7 @@ fn follow_page(
     ensures { Printed identity function words.now s out.old out.new result }
 {
     let first = s + 1;
-    let m = follow_message(words, first, groups);
-    let end = m.end;
-    let cut = m.cut;
+    let Message { end, cut } = follow_message(words, first, groups);
     let n = end - first;
     let Printing::Printed(bytes) = reader::print_heard(
         identity,
@@ -155,12 +135,9 @@ fn follow_page(
         digits,
         out,
     ) else {
-        return Line { end: end, bytes: 0 };
+        return Line { end, bytes: 0 };
     };
-    Line {
-        end: end,
-        bytes: bytes,
-    }
+    Line { end, bytes }
 }
 
 // Follows the identity: its lines are printed over the front of the lent ones. While no page of its own is open, only the words of its
@@ -181,31 +158,26 @@ fn follow_all(
     let mut bytes = 0;
     let mut s = next_in_frame(frame, 0);
     while s < slots {
-        let own = own_page(identity, words, s);
-        match own {
-            Own::Nothing => {
-                s = next_in_frame(frame, s + 1);
-            }
-            Own::Page(function) => {
-                let line = follow_page(
-                    identity,
-                    function,
-                    words,
-                    s,
-                    groups,
-                    digits,
-                    &mut lines[bytes..],
-                );
-                count += 1;
-                bytes += line.bytes;
-                let end = line.end;
-                s = next_in_frame(frame, end);
-            }
-        }
+        let Some(function) = own_page(identity, words, s) else {
+            s = next_in_frame(frame, s + 1);
+            continue;
+        };
+        let line = follow_page(
+            identity,
+            function,
+            words,
+            s,
+            groups,
+            digits,
+            &mut lines[bytes..],
+        );
+        count += 1;
+        bytes += line.bytes;
+        s = next_in_frame(frame, line.end);
     }
     Progress {
         lines: count,
-        bytes: bytes,
+        bytes,
     }
 }
 
@@ -235,40 +207,35 @@ fn follow_into(
     }
 }
 
-// Follows the identity through at most 16 batches: to clear the room for 300 would take longer than to follow it.
-fn follow_few(identity: u32, words: &[u32], out: &mut [u8]) -> Following
-    requires { slot_count words.now ≤ 256 }
+// Follows the identity through at most so many slots, each with room for ten digits and eleven bytes.
+fn follow_within<const SLOTS: usize, const DIGITS: usize, const LINES: usize>(
+    identity: u32,
+    words: &[u32],
+    out: &mut [u8],
+) -> Following
+    requires slots { slot_count words.now ≤ SLOTS }
+    requires slots_bound { SLOTS ≤ 4800 }
+    requires digits { DIGITS ≡ 10 * SLOTS }
+    requires lines { LINES ≡ 11 * SLOTS }
     ensures value { result ≡ lines_into (pages_for identity words.now) (length out.old) }
     ensures out_after { out.new ≡ over out.old (lines_of result (pages_for identity words.now)) }
 {
-    let mut groups = [0u32; 256];
-    let mut digits = [0u8; 2560];
-    let mut lines = [0u8; 2816];
+    let mut groups = [0u32; SLOTS];
+    let mut digits = [0u8; DIGITS];
+    let mut lines = [0u8; LINES];
     follow_into(identity, words, &mut groups, &mut digits, &mut lines, out)
 }
 
-// Follows the identity through at most 300 batches.
-fn follow_many(identity: u32, words: &[u32], out: &mut [u8]) -> Following
-    requires { slot_count words.now ≤ 4800 }
-    ensures value { result ≡ lines_into (pages_for identity words.now) (length out.old) }
-    ensures out_after { out.new ≡ over out.old (lines_of result (pages_for identity words.now)) }
-{
-    let mut groups = [0u32; 4800];
-    let mut digits = [0u8; 48000];
-    let mut lines = [0u8; 52800];
-    follow_into(identity, words, &mut groups, &mut digits, &mut lines, out)
-}
-
-// Follows the identity through words that can be read.
+// Follows the identity through words that can be read: to clear the room for 300 batches would take longer than to follow it through 16.
 fn follow_sound(identity: u32, words: &[u32], out: &mut [u8]) -> Following
     requires { Readable words.now }
     ensures value { result ≡ lines_into (pages_for identity words.now) (length out.old) }
     ensures out_after { out.new ≡ over out.old (lines_of result (pages_for identity words.now)) }
 {
     if words.len() / 17 <= 16 {
-        return follow_few(identity, words, out);
+        return follow_within::<256, 2560, 2816>(identity, words, out);
     }
-    follow_many(identity, words, out)
+    follow_within::<4800, 48000, 52800>(identity, words, out)
 }
 
 // Follows the identity by the words' verdict. Its own refusals come first.

@@ -5,7 +5,7 @@ use borrow.Author.Rules.{rules}
 use Rattle.base.proofs.ListLaws.{to_end}
 use Rattle.reader.specs.Reading.{slot_word}
 use Rattle.follower.proofs.SlotLaws.{own_frame, own_function}
-use Rattle.follower.proofs.Sofar.{sofar_none, sofar_skip, sofar_next, sofar_length, sofar_room, sofar_page, sofar_all}
+use Rattle.follower.proofs.Sofar.{sofar_none, sofar_skip, sofar_next, sofar_room, sofar_page, sofar_all}
 use Rattle.follower.proofs.follow_all.Goals as goal
 
 pub loop-s-init : goal.loop-s-init
@@ -14,44 +14,19 @@ loop-s-init c =
     let f = c.next_in_frame-s.ensures in
     (refl, refl, f.here, sofar_skip a.identity a.words.now a.lines.now 0 0 0 (sofar_none a.identity a.words.now a.lines.now) _ f)
 
-pub own_page-own-requires : goal.own_page-own-requires
-own_page-own-requires c = c.loop-s-test.true
-
-pub next_in_frame-s-requires-in-Nothing : goal.next_in_frame-s-requires-in-Nothing
-next_in_frame-s-requires-in-Nothing c =
-    record {
-      frame_bound = omega arith;
-      s_bound = omega (arith, c.loop-s-test.true, c.requires.slots);
-    }
-
-pub loop-s-smaller-in-Nothing : goal.loop-s-smaller-in-Nothing
-loop-s-smaller-in-Nothing c = omega (arith, c.next_in_frame-s-in-Nothing.ensures.on, c.loop-s-test.true)
-
-pub loop-s-preserved-in-Nothing : goal.loop-s-preserved-in-Nothing
-loop-s-preserved-in-Nothing c =
+pub loop-s-preserved-in_default : goal.loop-s-preserved-in_default
+loop-s-preserved-in_default c =
     let a = c.args in
-    let says = own_frame a.identity (slot_word a.words.now) c.loop-s.s c.loop-s.invariant.2 ∙ sym c.own_page-own.ensures ∙ c.in-Nothing.is in
+    let says = own_frame a.identity (slot_word a.words.now) c.loop-s.s c.loop-s.invariant.2 ∙ sym c.own_page.ensures ∙ c.in_default.is in
     let next = sofar_next a.identity a.words.now a.lines.now c.loop-s.count c.loop-s.bytes c.loop-s.s c.loop-s.invariant.3 c.loop-s-test.true says in
-    let f = c.next_in_frame-s-in-Nothing.ensures in
+    let f = c.next_in_frame-s-in_default.ensures in
     (c.loop-s.invariant.0, c.loop-s.invariant.1, f.here, sofar_skip a.identity a.words.now a.lines.now c.loop-s.count c.loop-s.bytes _ next _ f)
-
-pub slice_bounds-follow_page-count : goal.slice_bounds-follow_page-count
-slice_bounds-follow_page-count c =
-    let a = c.args in
-    let room = sofar_room a.identity a.words.now a.lines.now c.loop-s.count c.loop-s.bytes c.loop-s.s c.loop-s.invariant.3 c.requires.printed in
-    omega (arith, room)
-
-pub slice_bounds-follow_page-start : goal.slice_bounds-follow_page-start
-slice_bounds-follow_page-start c =
-    let a = c.args in
-    let room = sofar_room a.identity a.words.now a.lines.now c.loop-s.count c.loop-s.bytes c.loop-s.s c.loop-s.invariant.3 c.requires.printed in
-    omega (arith, room)
 
 pub follow_page-line-requires : goal.follow_page-line-requires
 follow_page-line-requires c =
     let a = c.args in
     let room = sofar_room a.identity a.words.now a.lines.now c.loop-s.count c.loop-s.bytes c.loop-s.s c.loop-s.invariant.3 c.requires.printed in
-    let says = own_frame a.identity (slot_word a.words.now) c.loop-s.s c.loop-s.invariant.2 ∙ sym c.own_page-own.ensures ∙ c.in-Page.is in
+    let says = own_frame a.identity (slot_word a.words.now) c.loop-s.s c.loop-s.invariant.2 ∙ sym c.own_page.ensures ∙ c.in-Some.is in
     record {
       inside = c.loop-s-test.true;
       function = own_function a.identity (slot_word a.words.now) c.loop-s.s _ says;
@@ -60,40 +35,14 @@ follow_page-line-requires c =
       printed = omega (arith, room, ap length (to_end c.loop-s.bytes c.loop-s.lines), length-drop c.loop-s.bytes c.loop-s.lines);
     }
 
-pub overflow_add-count : goal.overflow_add-count
-overflow_add-count c = omega (arith, c.loop-s.invariant.3.few, c.loop-s-test.true, c.requires.slots)
-
-pub overflow_add-bytes : goal.overflow_add-bytes
-overflow_add-bytes c =
-    let y = c.follow_page-line.ensures in
-    omega (arith, c.loop-s.invariant.3.short, y.short, y.on, y.inside, c.requires.slots)
-
-pub next_in_frame-s-requires-in-Page : goal.next_in_frame-s-requires-in-Page
-next_in_frame-s-requires-in-Page c =
-    let y = c.follow_page-line.ensures in
-    record {
-      frame_bound = omega arith;
-      s_bound = omega (arith, y.inside, c.requires.slots);
-    }
-
-pub loop-s-smaller : goal.loop-s-smaller
-loop-s-smaller c =
-    let y = c.follow_page-line.ensures in
-    omega (arith, y.on, c.next_in_frame-s-in-Page.ensures.on, c.loop-s-test.true)
-
 pub loop-s-preserved : goal.loop-s-preserved
 loop-s-preserved c =
     let a = c.args in
-    let says = own_frame a.identity (slot_word a.words.now) c.loop-s.s c.loop-s.invariant.2 ∙ sym c.own_page-own.ensures ∙ c.in-Page.is in
+    let says = own_frame a.identity (slot_word a.words.now) c.loop-s.s c.loop-s.invariant.2 ∙ sym c.own_page.ensures ∙ c.in-Some.is in
     let y = c.follow_page-line.ensures in
     let more = sofar_page a.identity a.words.now a.lines.now c.loop-s.count c.loop-s.bytes c.loop-s.s c.loop-s.invariant.3 c.requires.printed c.loop-s-test.true says y in
-    let f = c.next_in_frame-s-in-Page.ensures in
+    let f = c.next_in_frame-s-in-loop-s.ensures in
     (search rules, search rules, f.here, sofar_skip a.identity a.words.now a.lines.now _ _ _ more _ f)
-
-pub shape_of-lines : goal.shape_of-lines
-shape_of-lines c =
-    let a = c.args in
-    sofar_length a.identity a.words.now a.lines.now c.loop-s.count c.loop-s.bytes c.loop-s.s c.loop-s.invariant.3 c.requires.printed
 
 pub returns : goal.returns
 returns c =

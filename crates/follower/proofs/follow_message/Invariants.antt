@@ -1,10 +1,6 @@
 -- `follower::follow_message` meets its contract: all slots passed hold message words. Assumes nothing.
-use Prim.Native.Nat.{◌-◌}
 use Rattle.follower.proofs.Going.{Going}
 use Rattle.follower.proofs.follow_message.Given as goal
 
 abbrev pub invariant-loop-e : goal.invariant-loop-e
 invariant-loop-e l = Going l.words l.s l.initial.groups l.e l.groups
-
-abbrev pub decreases-loop-e : goal.decreases-loop-e
-decreases-loop-e l = l.slots - l.e
