@@ -35,6 +35,36 @@ pub struct Totals {
     pub bytes: usize,
 }
 
+impl Totals {
+    // Two reports as one.
+    fn add(self, more: Totals) -> Totals
+        requires { Addable self more }
+        ensures { result ≡ added self more }
+    {
+        Totals {
+            batches: self.batches + more.batches,
+            pages: self.pages + more.pages,
+            lost: self.lost + more.lost,
+            orphans: self.orphans + more.orphans,
+            changed: Changes {
+                slots: self.changed.slots + more.changed.slots,
+                syncs: self.changed.syncs + more.changed.syncs,
+            },
+            bytes: self.bytes + more.bytes,
+        }
+    }
+}
+
+// The report on nothing.
+const NOTHING: Totals = Totals {
+    batches: 0,
+    pages: 0,
+    lost: 0,
+    orphans: 0,
+    changed: Changes { slots: 0, syncs: 0 },
+    bytes: 0,
+};
+
 // What receiving answers.
 #[derive(Clone, Copy)]
 pub enum Receiving {
@@ -47,17 +77,8 @@ fn bit(bits: &[u8], p: usize) -> u32
     requires { p < bit_count bits.now }
     ensures { result ≡ bit_at bits.now p }
 {
-    let byte = bits[p / 8] as u32;
     let behind = (7 - p % 8) as u32;
-    (byte >> behind) % 2
-}
-
-// A byte as a number.
-fn byte(bits: &[u8], i: usize) -> u32
-    requires { i < length bits.now }
-    ensures { (result < 256) × (result ≡ get_or bits.now i 0) }
-{
-    bits[i] as u32
+    (u32::from(bits[p / 8]) >> behind) % 2
 }
 
 // The four bytes from byte i on as one number, the first on top.
@@ -65,11 +86,7 @@ fn four_bytes(bits: &[u8], i: usize) -> u32
     requires { i + 4 ≤ length bits.now }
     ensures { result ≡ word_from bits.now (8 * i) }
 {
-    let a = byte(bits, i);
-    let b = byte(bits, i + 1);
-    let c = byte(bits, i + 2);
-    let d = byte(bits, i + 3);
-    ((a * 256 + b) * 256 + c) * 256 + d
+    u32::from_be_bytes([bits[i], bits[i + 1], bits[i + 2], bits[i + 3]])
 }
 
 // The 32 bits from a position on: of the five bytes that may hold them the first four, moved up, and the top of the fifth.
@@ -83,7 +100,7 @@ fn word_from(bits: &[u8], p: usize) -> u32
     if up == 0 {
         return front;
     }
-    (front << up) + (byte(bits, i + 4) >> (8 - up))
+    (front << up) + (u32::from(bits[i + 4]) >> (8 - up))
 }
 
 // The hunt from position p on: one bit more is shifted in for each position.
@@ -96,13 +113,11 @@ fn hunt(bits: &[u8], p: usize) -> usize
         return n;
     }
     let mut w = word_from(bits, p);
-    let mut q = p;
-    while q + 544 <= n {
+    for q in p..=n - 544 {
         if reader::is_sync(w) {
             return q;
         }
         w = w % 0x8000_0000 * 2 + bit(bits, q + 32);
-        q += 1;
     }
     n
 }
@@ -112,17 +127,13 @@ fn count_batches(bits: &[u8], p: usize) -> usize
     requires { (length bits.now ≤ 65536) × (p ≤ bit_count bits.now) }
     ensures { result ≡ batches_from bits.now p }
 {
-    let n = 8 * bits.len();
-    let mut b = 0;
-    let mut e = p;
-    while e + 544 <= n {
-        if !reader::is_sync(word_from(bits, e)) {
+    let most = (8 * bits.len() - p) / 544;
+    for b in 0..most {
+        if !reader::is_sync(word_from(bits, p + 544 * b)) {
             return b;
         }
-        b += 1;
-        e += 544;
     }
-    b
+    most
 }
 
 // Fills a slice with the words from position p on.
@@ -130,24 +141,8 @@ fn fill_words(bits: &[u8], p: usize, words: &mut [u32])
     requires { (length bits.now ≤ 65536) × (p + 32 * length words.old ≤ bit_count bits.now) }
     ensures { words.new ≡ tab (λ k. word_from bits.now (p + 32 * k)) (length words.old) }
 {
-    let mut k = 0;
-    while k < words.len() {
-        words[k] = word_from(bits, p + 32 * k);
-        k += 1;
-    }
-}
-
-// The report on nothing.
-fn no_totals() -> Totals
-    ensures { result ≡ totals_of 0 nothing }
-{
-    Totals {
-        batches: 0,
-        pages: 0,
-        lost: 0,
-        orphans: 0,
-        changed: Changes { slots: 0, syncs: 0 },
-        bytes: 0,
+    for (k, word) in words.iter_mut().enumerate() {
+        *word = word_from(bits, p + 32 * k);
     }
 }
 
@@ -169,33 +164,15 @@ fn read_stretch(bits: &[u8], p: usize, b: usize, words: &mut [u32], out: &mut [u
         bytes,
     } = reader::read_stretch(Engine::Fast, &words[..n], cut, out)
     else {
-        return no_totals();
+        return NOTHING;
     };
     Totals {
         batches: b as u32,
-        pages: pages,
-        lost: lost,
-        orphans: orphans,
-        changed: changed,
-        bytes: bytes,
-    }
-}
-
-// Two reports as one.
-fn add(t: Totals, u: Totals) -> Totals
-    requires { Addable t u }
-    ensures { result ≡ added t u }
-{
-    Totals {
-        batches: t.batches + u.batches,
-        pages: t.pages + u.pages,
-        lost: t.lost + u.lost,
-        orphans: t.orphans + u.orphans,
-        changed: Changes {
-            slots: t.changed.slots + u.changed.slots,
-            syncs: t.changed.syncs + u.changed.syncs,
-        },
-        bytes: t.bytes + u.bytes,
+        pages,
+        lost,
+        orphans,
+        changed,
+        bytes,
     }
 }
 
@@ -207,7 +184,7 @@ fn receive_all(bits: &[u8], words: &mut [u32], lines: &mut [u8]) -> Receiving
     ensures value { result ≡ receive_bits bits.now (length lines.old) }
     ensures lines_after { take (totals_received result).bytes lines.new ≡ lines_received result bits.now }
 {
-    let mut t = no_totals();
+    let mut t = NOTHING;
     let mut p = 0;
     loop {
         let q = hunt(bits, p);
@@ -220,19 +197,9 @@ fn receive_all(bits: &[u8], words: &mut [u32], lines: &mut [u8]) -> Receiving
         }
         let at = t.bytes;
         let more = read_stretch(bits, q, b, words, &mut lines[at..]);
-        t = add(t, more);
+        t = t.add(more);
         p = q + 544 * b;
     }
-}
-
-// Room for the words of 300 batches.
-fn blank_words() -> [u32; 5100] {
-    [0u32; 5100]
-}
-
-// Room for the lines of 300 batches: ten bytes a slot, and one more for each page that a failed test cuts short.
-fn blank_lines() -> [u8; 48300] {
-    [0u8; 48300]
 }
 
 // Receives a recording's bits, eight to a byte, the first on top: the lines of the pages go to the front of the bytes, and what stands
@@ -245,8 +212,9 @@ pub fn receive(bits: &[u8], out: &mut [u8]) -> Receiving
     if 65536 < bits.len() {
         return Receiving::Declined(Refusal::TooLong);
     }
-    let mut words = blank_words();
-    let mut lines = blank_lines();
+    // Room for the words and the lines of 300 batches: ten bytes a slot, and one more for each page that a failed test cuts short.
+    let mut words = [0u32; 5100];
+    let mut lines = [0u8; 48300];
     let Receiving::Received(t) = receive_all(bits, &mut words, &mut lines) else {
         return Receiving::Declined(Refusal::TooMany);
     };
@@ -278,6 +246,6 @@ pub fn report(r: Receiving) -> Totals
 {
     match r {
         Receiving::Received(t) => t,
-        Receiving::Declined(_) => no_totals(),
+        Receiving::Declined(_) => NOTHING,
     }
 }

@@ -1,6 +1,6 @@
 -- `receiver::fill_words` meets its contract: the words so far stand in the slice. Assumes nothing.
 use mathlib.Core.Path.{◌≡◌}
-use Prim.Native.Nat.{◌+◌, ◌-◌, ◌*◌, ◌≤◌}
+use Prim.Native.Nat.{◌+◌, ◌*◌}
 use lib.ListN.{length}
 use Rattle.base.specs.Lists.{tab}
 use Rattle.base.proofs.ListLaws.{filled}
@@ -8,7 +8,4 @@ use Rattle.receiver.specs.Bits.{word_from}
 use Rattle.receiver.proofs.fill_words.Given as goal
 
 abbrev pub invariant-loop-k : goal.invariant-loop-k
-invariant-loop-k l = (l.k ≤ length l.initial.words) × (length l.words ≡ length l.initial.words) × (l.words ≡ filled l.initial.words (tab (λ i. word_from l.bits (l.p + 32 * i)) (length l.initial.words)) l.k)
-
-abbrev pub decreases-loop-k : goal.decreases-loop-k
-decreases-loop-k l = length l.initial.words - l.k
+invariant-loop-k l = l.words ≡ filled l.initial.words (tab (λ i. word_from l.bits (l.p + 32 * i)) (length l.initial.words)) l.k

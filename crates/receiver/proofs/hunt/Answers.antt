@@ -10,9 +10,6 @@ returns-then-n-p c =
     let a = c.args in
     sym (hunt_none a.bits.now a.p a.p (omega arith) (λ q l m. absurd (omega arith)) (omega arith))
 
-pub loop-q-init : goal.loop-q-init
-loop-q-init c = (omega arith, omega arith, c.word_from-w.ensures, λ t l m. absurd (omega arith))
-
 pub returns-then-is_sync : goal.returns-then-is_sync
 returns-then-is_sync c =
     let a = c.args in
@@ -35,8 +32,10 @@ loop-q-preserved c =
       passed_more s a.p l.q l.invariant.3 here,
     )
 
-pub returns : goal.returns
-returns c =
+pub returns-else-is_sync : goal.returns-else-is_sync
+returns-else-is_sync c =
     let a = c.args in
+    let s = a.bits.now in
     let l = c.loop-q in
-    sym (hunt_none a.bits.now a.p l.q (omega arith) l.invariant.3 (omega arith))
+    let here = batch_not s l.q (tested s l.q l.invariant.2 c.is_sync.ensures c.if-is_sync.false) in
+    sym (hunt_none s a.p (l.q + 1) (omega arith) (passed_more s a.p l.q l.invariant.3 here) (omega arith))

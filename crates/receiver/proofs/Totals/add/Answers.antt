@@ -1,6 +1,6 @@
--- `receiver::add` meets its contract. Assumes nothing.
+-- `receiver::Totals::add` meets its contract. Assumes nothing.
 use native.Mathlib.Omega.{arith}
-use Rattle.receiver.proofs.add.Goals as goal
+use Rattle.receiver.proofs.Totals.add.Goals as goal
 
 pub overflow_add-result-6 : goal.overflow_add-result-6
 overflow_add-result-6 c =
