@@ -1,5 +1,5 @@
 -- The lines of one identity are no longer than those of all pages, so that as much room suffices; how many bytes are written. Assumes nothing.
-use mathlib.Core.Path.{◌≡◌}
+use mathlib.Core.Path.{◌≡◌, ap}
 use mathlib.Core.Bool.{Bool, true, false, cond}
 use mathlib.Core.List.{List, [], ◌∷◌}
 use Prim.Native.Nat.{ℕ, ◌≤◌, ◌<◌}
@@ -20,10 +20,11 @@ use Rattle.reader.specs.declared.Verdict.{Verdict}
 use Rattle.reader.specs.declared.Verdict.TheVariants.{Sound, Faulty}
 use Rattle.reader.proofs.Laws as reader
 use Rattle.follower.specs.Pages.{of_identity, pages_for}
-use Rattle.follower.specs.Answers.{lines_into, unless_faulty, follow_judged, follow_words, follow_listing, number_of}
+use Rattle.follower.specs.Answers.{lines_into, unless_faulty, follow_judged, follow_words, follow_listing, bytes_followed, number_of}
 use Rattle.follower.specs.Enough.{Enough}
-use Rattle.follower.specs.declared.Following.TheVariants.{Followed, Declined}
-use Rattle.follower.specs.declared.Refusal.TheVariants.{IdentityRange, IdentityReserved, NoRoom}
+use Rattle.std.specs.declared.result.Result.TheVariants.{Ok, Err}
+use Rattle.follower.specs.declared.Followed.{Followed}
+use Rattle.follower.specs.declared.FollowError.TheVariants.{IdentityRange, IdentityReserved, NoRoom}
 
 -- some of the lines are no longer than all
 fewer : (i : ℕ) (hs : List Hearing) → length (lines_heard (of_identity i hs)) ≤ length (lines_heard hs)
@@ -58,7 +59,7 @@ module _ (i : ℕ) (words : List ℕ) (room : ℕ) (large : 48000 ≤ room) wher
   unfolding follow_judged
   judged_fits v h = go (ltb 0x1FFFFF i) (is_reserved i)
     where
-      go : (a b : Bool) → number_of (cond a (Declined IdentityRange) (cond b (Declined IdentityReserved) (unless_faulty v (lines_into (pages_for i words) room)))) ≡ 10 → ⊥
+      go : (a b : Bool) → number_of (cond a (Err IdentityRange) (cond b (Err IdentityReserved) (unless_faulty v (lines_into (pages_for i words) room)))) ≡ 10 → ⊥
       go true b e = omega arith
       go false true e = omega arith
       go false false e = verdict_fits v h e
@@ -76,26 +77,26 @@ enough i = record { of_words = words_fit i; of_listing = listing_fits i }
 
 -- ---- how many bytes are written
 
-module _ {lines m : ℕ} where
-  into_size : (hs : List Hearing) (room : ℕ) → Followed lines m ≡ lines_into hs room → m ≡ length (lines_heard hs)
+module _ {r : Followed} where
+  into_size : (hs : List Hearing) (room : ℕ) → Ok r ≡ lines_into hs room → r.bytes ≡ length (lines_heard hs)
   into_size hs room e = go (ltb room (length (lines_heard hs))) e
     where
-      go : (b : Bool) → Followed lines m ≡ cond b (Declined NoRoom) (Followed (length hs) (length (lines_heard hs))) → m ≡ length (lines_heard hs)
+      go : (b : Bool) → Ok r ≡ cond b (Err NoRoom) (Ok (record { lines = length hs; bytes = length (lines_heard hs) })) → r.bytes ≡ length (lines_heard hs)
       go true f = let z : ◌≡◌ {A = ℕ} 0 1 = cc in absurd (omega arith)
-      go false f = cc
+      go false f = ap bytes_followed f
 
-  judged_size : (i : ℕ) (v : Verdict) (words : List ℕ) (room : ℕ) → Followed lines m ≡ follow_judged i v words room → m ≡ length (lines_heard (pages_for i words))
+  judged_size : (i : ℕ) (v : Verdict) (words : List ℕ) (room : ℕ) → Ok r ≡ follow_judged i v words room → r.bytes ≡ length (lines_heard (pages_for i words))
   unfolding follow_judged
   judged_size i v words room e = go (ltb 0x1FFFFF i) (is_reserved i) v e
     where
-      go : (a b : Bool) (x : Verdict) → Followed lines m ≡ cond a (Declined IdentityRange) (cond b (Declined IdentityReserved) (unless_faulty x (lines_into (pages_for i words) room)))
-          → m ≡ length (lines_heard (pages_for i words))
+      go : (a b : Bool) (x : Verdict) → Ok r ≡ cond a (Err IdentityRange) (cond b (Err IdentityReserved) (unless_faulty x (lines_into (pages_for i words) room)))
+          → r.bytes ≡ length (lines_heard (pages_for i words))
       go true b x f = let z : ◌≡◌ {A = ℕ} 0 1 = cc in absurd (omega arith)
       go false true x f = let z : ◌≡◌ {A = ℕ} 0 1 = cc in absurd (omega arith)
       go false false (Faulty why) f = let z : ◌≡◌ {A = ℕ} 0 1 = cc in absurd (omega arith)
       go false false Sound f = into_size (pages_for i words) room f
 
 -- the lines of a following that isn't declined have as many bytes as it answers
-pub bytes_followed_lem : (i : ℕ) (s : List ℕ) (room : ℕ) {lines m : ℕ} → Followed lines m ≡ follow_listing i s room → m ≡ length (lines_heard (pages_for i (words_of s)))
+pub bytes_followed_lem : (i : ℕ) (s : List ℕ) (room : ℕ) {r : Followed} → Ok r ≡ follow_listing i s room → r.bytes ≡ length (lines_heard (pages_for i (words_of s)))
 unfolding follow_listing
 bytes_followed_lem i s room e = judged_size i (judge_listing s) (words_of s) room e

@@ -1,4 +1,4 @@
--- What the code's inner functions promise. No public promise needs it. `Message`, `Line` and `Progress` are src/lib.rt's structs.
+-- What the code's inner functions promise. No public promise needs it. `Message`, `Line` and `Followed` are src/lib.rt's structs.
 use Rattle.std.specs.Prelude.{◌≡◌, List, ◌++◌, ℕ, ◌+◌, ◌-◌, ◌*◌, ◌≤◌, ◌<◌, length, take}
 use Rattle.base.specs.Lists.{over}
 use Rattle.placement.specs.Placement.{frame_of}
@@ -7,7 +7,7 @@ use Rattle.reader.specs.Lines.{line_heard, lines_heard}
 use Rattle.follower.specs.Following.{followed, own_page, own_from, slot_count}
 use Rattle.follower.specs.declared.Message.{Message}
 use Rattle.follower.specs.declared.Line.{Line}
-use Rattle.follower.specs.declared.Progress.{Progress}
+use Rattle.follower.specs.declared.Followed.{Followed}
 
 -- slot r is the first of frame f from slot s on
 pub record InFrame (f s r : ℕ) : Type 0 where
@@ -56,7 +56,7 @@ pub record Printed (i f : ℕ) (words : List ℕ) (s : ℕ) (old new : List ℕ)
   pub others : own_from i (slot_word words) (s + 1) (slot_count words - (s + 1)) ≡ own_from i (slot_word words) l.end (slot_count words - l.end)
 
 -- the lines of these pages are printed
-pub record Kept (hs : List Hearing) (p : Progress) (lines : List ℕ) : Type 0 where
+pub record Kept (hs : List Hearing) (p : Followed) (lines : List ℕ) : Type 0 where
   pub count : p.lines ≡ length hs
   pub size : p.bytes ≡ length (lines_heard hs)
   pub printed : take p.bytes lines ≡ lines_heard hs

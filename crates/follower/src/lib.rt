@@ -21,9 +21,16 @@ use job::Printing;
 use listing::Listing;
 use reader::{Fault, Meaning, Reading, Verdict};
 
+// How many lines there are of an identity, and how many bytes of them are written.
+#[derive(Clone, Copy)]
+pub struct Followed {
+    pub lines: u32,
+    pub bytes: usize,
+}
+
 // Why an identity is not followed.
 #[derive(Clone, Copy)]
-pub enum Refusal {
+pub enum FollowError {
     // Number 2: it is over 1FFFFF.
     IdentityRange,
     // Number 3: it is reserved.
@@ -32,14 +39,6 @@ pub enum Refusal {
     Unread(Fault),
     // Number 10: the lent slice is shorter than the lines.
     NoRoom,
-}
-
-// What following an identity answers.
-#[derive(Clone, Copy)]
-pub enum Following {
-    // How many lines there are, and how many bytes of them are written.
-    Followed { lines: u32, bytes: usize },
-    Declined(Refusal),
 }
 
 // The slot behind a message's last word, and whether the message is cut short there.
@@ -53,13 +52,6 @@ struct Message {
 #[derive(Clone, Copy)]
 struct Line {
     end: usize,
-    bytes: usize,
-}
-
-// How many lines are printed, and how many bytes they take.
-#[derive(Clone, Copy)]
-struct Progress {
-    lines: u32,
     bytes: usize,
 }
 
@@ -148,7 +140,7 @@ fn follow_all(
     groups: &mut [u32],
     digits: &mut [u8],
     lines: &mut [u8],
-) -> Progress
+) -> Followed
     requires { Buffers words.now (length groups.old) (length digits.old) (length lines.old) }
     ensures { Kept (pages_for identity words.now) result lines.new }
 {
@@ -175,7 +167,7 @@ fn follow_all(
         bytes += line.bytes;
         s = next_in_frame(frame, line.end);
     }
-    Progress {
+    Followed {
         lines: count,
         bytes,
     }
@@ -190,21 +182,18 @@ fn follow_into(
     digits: &mut [u8],
     lines: &mut [u8],
     out: &mut [u8],
-) -> Following
+) -> Result<Followed, FollowError>
     requires { Buffers words.now (length groups.old) (length digits.old) (length lines.old) }
     ensures value { result ≡ lines_into (pages_for identity words.now) (length out.old) }
     ensures out_after { out.new ≡ over out.old (lines_of result (pages_for identity words.now)) }
 {
-    let p = follow_all(identity, words, groups, digits, lines);
-    let n = p.bytes;
+    let followed = follow_all(identity, words, groups, digits, lines);
+    let n = followed.bytes;
     if out.len() < n {
-        return Following::Declined(Refusal::NoRoom);
+        return Err(FollowError::NoRoom);
     }
     out[..n].copy_from_slice(&lines[..n]);
-    Following::Followed {
-        lines: p.lines,
-        bytes: n,
-    }
+    Ok(followed)
 }
 
 // Follows the identity through at most so many slots, each with room for ten digits and eleven bytes.
@@ -212,7 +201,7 @@ fn follow_within<const SLOTS: usize, const DIGITS: usize, const LINES: usize>(
     identity: u32,
     words: &[u32],
     out: &mut [u8],
-) -> Following
+) -> Result<Followed, FollowError>
     requires slots { slot_count words.now ≤ SLOTS }
     requires slots_bound { SLOTS ≤ 4800 }
     requires digits { DIGITS ≡ 10 * SLOTS }
@@ -227,7 +216,7 @@ fn follow_within<const SLOTS: usize, const DIGITS: usize, const LINES: usize>(
 }
 
 // Follows the identity through words that can be read: to clear the room for 300 batches would take longer than to follow it through 16.
-fn follow_sound(identity: u32, words: &[u32], out: &mut [u8]) -> Following
+fn follow_sound(identity: u32, words: &[u32], out: &mut [u8]) -> Result<Followed, FollowError>
     requires { Readable words.now }
     ensures value { result ≡ lines_into (pages_for identity words.now) (length out.old) }
     ensures out_after { out.new ≡ over out.old (lines_of result (pages_for identity words.now)) }
@@ -239,25 +228,35 @@ fn follow_sound(identity: u32, words: &[u32], out: &mut [u8]) -> Following
 }
 
 // Follows the identity by the words' verdict. Its own refusals come first.
-fn follow_judged(identity: u32, v: Verdict, words: &[u32], out: &mut [u8]) -> Following
+fn follow_judged(
+    identity: u32,
+    v: Verdict,
+    words: &[u32],
+    out: &mut [u8],
+) -> Result<Followed, FollowError>
     requires { v ≡ Sound → Readable words.now }
     ensures value { result ≡ follow_judged identity v words.now (length out.old) }
     ensures out_after { out.new ≡ over out.old (lines_of result (pages_for identity words.now)) }
 {
     if 0x1F_FFFF < identity {
-        return Following::Declined(Refusal::IdentityRange);
+        return Err(FollowError::IdentityRange);
     }
     if job::is_reserved(identity) {
-        return Following::Declined(Refusal::IdentityReserved);
+        return Err(FollowError::IdentityReserved);
     }
     match v {
         Verdict::Sound => follow_sound(identity, words, out),
-        Verdict::Faulty(why) => Following::Declined(Refusal::Unread(why)),
+        Verdict::Faulty(why) => Err(FollowError::Unread(why)),
     }
 }
 
 // Follows the identity through what `listing::decode` answers: of the words that it returns those of the batches stand first.
-fn follow_decoded(identity: u32, l: Listing, words: &[u32], out: &mut [u8]) -> Following
+fn follow_decoded(
+    identity: u32,
+    l: Listing,
+    words: &[u32],
+    out: &mut [u8],
+) -> Result<Followed, FollowError>
     requires { Decoding l words.now }
     ensures value { result ≡ follow_judged identity (judge_decoded l (batches_first l words.now)) (batches_first l words.now) (length out.old) }
     ensures out_after { out.new ≡ over out.old (lines_of result (pages_for identity (batches_first l words.now))) }
@@ -269,7 +268,7 @@ fn follow_decoded(identity: u32, l: Listing, words: &[u32], out: &mut [u8]) -> F
 
 // Follows the identity through a slice of words, batches only: its lines go to the front of the bytes, and what stands behind them keeps
 // its value.
-pub fn follow_words(identity: u32, words: &[u32], out: &mut [u8]) -> Following
+pub fn follow_words(identity: u32, words: &[u32], out: &mut [u8]) -> Result<Followed, FollowError>
     ensures value { result ≡ follow_words identity words.now (length out.old) }
     ensures out_after { out.new ≡ over out.old (lines_of result (pages_for identity words.now)) }
 {
@@ -278,7 +277,11 @@ pub fn follow_words(identity: u32, words: &[u32], out: &mut [u8]) -> Following
 }
 
 // Follows the identity through a listing as `follow_words` does through its words.
-pub fn follow_listing(identity: u32, listing: &[u8], out: &mut [u8]) -> Following
+pub fn follow_listing(
+    identity: u32,
+    listing: &[u8],
+    out: &mut [u8],
+) -> Result<Followed, FollowError>
     ensures value { result ≡ follow_listing identity listing.now (length out.old) }
     ensures out_after { out.new ≡ over out.old (lines_of result (pages_for identity (words_of listing.now))) }
 {
@@ -287,31 +290,27 @@ pub fn follow_listing(identity: u32, listing: &[u8], out: &mut [u8]) -> Followin
 }
 
 // The number of an answer in the table; 0 where the identity is followed.
-pub fn number(r: Following) -> u32
+pub fn number(r: Result<Followed, FollowError>) -> u32
     ensures { result ≡ number_of r }
 {
-    match r {
-        Following::Followed { lines: _, bytes: _ } => 0,
-        Following::Declined(why) => match why {
-            Refusal::IdentityRange => 2,
-            Refusal::IdentityReserved => 3,
-            Refusal::Unread(fault) => reader::number(Reading::Declined(fault)),
-            Refusal::NoRoom => 10,
-        },
+    let Err(why) = r else { return 0 };
+    match why {
+        FollowError::IdentityRange => 2,
+        FollowError::IdentityReserved => 3,
+        FollowError::Unread(fault) => reader::number(Reading::Declined(fault)),
+        FollowError::NoRoom => 10,
     }
 }
 
 // The place of an answer; 0 where the identity is followed.
-pub fn place(r: Following) -> usize
+pub fn place(r: Result<Followed, FollowError>) -> usize
     ensures { result ≡ place_of r }
 {
-    match r {
-        Following::Followed { lines: _, bytes: _ } => 0,
-        Following::Declined(why) => match why {
-            Refusal::IdentityRange => 0,
-            Refusal::IdentityReserved => 0,
-            Refusal::Unread(fault) => reader::place(Reading::Declined(fault)),
-            Refusal::NoRoom => 0,
-        },
+    let Err(why) = r else { return 0 };
+    match why {
+        FollowError::IdentityRange => 0,
+        FollowError::IdentityReserved => 0,
+        FollowError::Unread(fault) => reader::place(Reading::Declined(fault)),
+        FollowError::NoRoom => 0,
     }
 }

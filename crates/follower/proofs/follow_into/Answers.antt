@@ -7,12 +7,12 @@ use Rattle.base.specs.Lists.{over}
 use Rattle.follower.specs.Pages.{pages_for}
 use Rattle.follower.specs.Progress.{Kept}
 use Rattle.follower.proofs.AnswerLaws.{too_long, all_followed}
-use Rattle.follower.proofs.follow_into.Goals.{After-follow_all-p}
+use Rattle.follower.proofs.follow_into.Goals.{After-follow_all-followed}
 use Rattle.follower.proofs.follow_into.Goals as goal
 
 -- once all slots are passed
-kept : (c : After-follow_all-p) → Kept (pages_for c.args.identity c.args.words.now) c.follow_all-p.result c.follow_all-p.new.lines
-kept c = c.follow_all-p.ensures
+kept : (c : After-follow_all-followed) → Kept (pages_for c.args.identity c.args.words.now) c.follow_all-followed.result c.follow_all-followed.new.lines
+kept c = c.follow_all-followed.ensures
 
 -- the lines go over the front, and what stands behind them stays
 copied : (old : List ℕ) {text front : List ℕ} {n : ℕ} → n ≡ length text → front ≡ text → front ++ drop n old ≡ over old text
@@ -21,13 +21,13 @@ copied old size e = ap₂ (λ (t : List ℕ) (k : ℕ). t ++ drop k old) e size
 pub returns-then-out-n : goal.returns-then-out-n
 returns-then-out-n c =
     record {
-      value = too_long (kept (goal.at.returns-then-out-n c).After-follow_all-p) (length c.args.out.now) c.if-out-n.true;
+      value = too_long (kept (goal.at.returns-then-out-n c).After-follow_all-followed) (length c.args.out.now) c.if-out-n.true;
       out_after = refl;
     }
 
 pub returns : goal.returns
 returns c =
-    let done = kept (goal.at.returns c).After-follow_all-p in
+    let done = kept (goal.at.returns c).After-follow_all-followed in
     let old = c.args.out.now in
     record {
       value = all_followed done (length old) c.if-out-n.false;
