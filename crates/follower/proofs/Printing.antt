@@ -6,9 +6,8 @@ use Prim.Native.Nat.{ℕ, ◌+◌, ◌-◌, ◌%◌, ◌≤◌}
 use native.Mathlib.Omega.{arith}
 use lib.ListN.{length, take}
 use lib.Seq.{length-take-le}
+use Rattle.std.specs.Prelude.{Option, Some, None}
 use Rattle.base.specs.Lists.{over}
-use Rattle.job.specs.declared.Printing as job
-use Rattle.job.specs.declared.Printing.TheVariants as printing
 use Rattle.reader.specs.Reading.{Hearing}
 use Rattle.reader.specs.Lines.{line_heard, heard_page, room_for, printing_heard, line_written}
 use Rattle.reader.proofs.Laws.{lines_short, room_enough}
@@ -40,11 +39,11 @@ module _ (i f : ℕ) (words : List ℕ) (s : ℕ) (groups : List ℕ) (m : Messa
     enough =
         room_enough (length digits) (length old) heard (omega (arith, collected_length, r.inside, y.written)) (omega (arith, collected_length, r.on, r.inside, y.printed))
 
-    pub page_printed : {answer : job.Printing} → answer ≡ printing_heard (length digits) (length old) heard → answer ≡ printing.Printed (length (line_heard (page_at i f words s)))
+    pub page_printed : {answer : Option ℕ} → answer ≡ printing_heard (length digits) (length old) heard → answer ≡ Some (length (line_heard (page_at i f words s)))
     page_printed a =
         a
-        ∙ ap (λ (b : Bool). cond b (printing.Printed (length (line_heard heard))) printing.NoRoom) enough
-        ∙ ap (λ (h : Hearing). printing.Printed (length (line_heard h))) same
+        ∙ ap (λ (b : Bool). cond b (Some (length (line_heard heard))) None) enough
+        ∙ ap (λ (h : Hearing). Some (length (line_heard h))) same
 
     pub page_line_lem : {out : List ℕ} → out ≡ over old (line_written (length digits) (length old) heard)
         → Printed i f words s old out (record { end = m.end; bytes = length (line_heard (page_at i f words s)) })

@@ -17,7 +17,6 @@ ghost use Rattle.follower.specs.Answers.{lines_into, follow_judged, follow_words
 ghost use Rattle.follower.specs.Progress.{InFrame, Ran, Buffers, Roomy, Printed, Kept};
 
 use codeword::Engine;
-use job::Printing;
 use listing::Listing;
 use reader::{Fault, Meaning, Reading, Verdict};
 
@@ -119,7 +118,7 @@ fn follow_page(
     let first = s + 1;
     let Message { end, cut } = follow_message(words, first, groups);
     let n = end - first;
-    let Printing::Printed(bytes) = reader::print_heard(
+    let Some(bytes) = reader::print_heard(
         identity,
         function,
         &groups[..n],

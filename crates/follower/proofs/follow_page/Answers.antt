@@ -2,7 +2,7 @@
 use mathlib.Core.Path.{sym, subst, ◌∙◌}
 use Prim.Native.Nat.{ℕ, ◌+◌}
 use lib.Seq.{length-take-le}
-use Rattle.job.proofs.PrintLaws.{no_room_printed, bytes_printed_lem}
+use Rattle.std.proofs.lemmas.Option.{none-some, same_Some}
 use Rattle.follower.specs.Progress.{Ran, Printed}
 use Rattle.follower.proofs.Printing.{collected_inside, page_printed, page_line_lem}
 use Rattle.follower.proofs.follow_page.Goals.{After-follow_message-end}
@@ -21,7 +21,7 @@ pub returns-in_default : goal.returns-in_default
 returns-in_default c =
     let a = c.args in
     absurd
-    (no_room_printed (sym c.in_default.is
+    (none-some _ (sym c.in_default.is
     ∙ page_printed a.identity a.function a.words.now a.s _ _ (ran (goal.at.returns-in_default c).After-follow_message-end) a.digits.now a.out.now c.requires c.print_heard.ensures.value))
 
 pub returns : goal.returns
@@ -29,6 +29,6 @@ returns c =
     let a = c.args in
     let r = ran (goal.at.returns c).After-follow_message-end in
     let e = c.print_heard.ensures in
-    let size = bytes_printed_lem (sym c.in-Printed.is ∙ page_printed a.identity a.function a.words.now a.s _ _ r a.digits.now a.out.now c.requires e.value) in
+    let size = same_Some _ _ (sym c.in-Some.is ∙ page_printed a.identity a.function a.words.now a.s _ _ r a.digits.now a.out.now c.requires e.value) in
     subst (λ (b : ℕ). Printed a.identity a.function a.words.now a.s a.out.now c.print_heard.new.out (record { end = c.follow_message-end.result.end; bytes = b }))
     (sym size) (page_line_lem a.identity a.function a.words.now a.s _ _ r a.digits.now a.out.now c.requires e.out_after)
