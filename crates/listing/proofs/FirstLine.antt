@@ -10,11 +10,10 @@ use borrow.Author.Tests.{not-false, eq-eqb, ne_eqb, eqb-true, eqb-false, leb-tru
 use lib.Dec.{eqb, leb}
 use lib.ListN.{length, get_or, take, drop, length-drop, get_or-eq_default}
 use lib.Seq.{length-take-le, take-take, get_or-take, get_or-drop, drop-cons}
-use Rattle.std.specs.Prelude.{Some, None}
+use Rattle.std.specs.Prelude.{Option, Some, None}
 use Rattle.base.specs.Hex.{is_hex, hex_number, hex_word}
 use Rattle.base.specs.Leading.{leading}
 use Rattle.base.specs.Lines.{Lines, behind, line, split, line_at, not_newline, line_end}
-use Rattle.base.specs.declared.HexWord.TheVariants.{Number, NotHex}
 use Rattle.base.proofs.Bools.{either, true_false, and_true, and_false}
 use Rattle.base.proofs.HexLaws.{number_word, none_word, number_fits}
 use Rattle.base.proofs.LeadingLaws.{leading_le, leading_first}
@@ -195,12 +194,12 @@ module _ (d : List ℕ) (h : 8 ≤ length d) where
   eight : length (take 8 d) ≡ 8
   eight = length-take-le 8 d h
 
-  word_digits : (w : ℕ) → hex_word (take 8 d) ≡ Number w → (leading is_hex (take 8 d) ≡ 8) × (hex_number 0 (take 8 d) ≡ w)
+  word_digits : (w : ℕ) → hex_word (take 8 d) ≡ Some w → (leading is_hex (take 8 d) ≡ 8) × (hex_number 0 (take 8 d) ≡ w)
   word_digits w e =
       let n = number_word (take 8 d) w e in
       (n.0 ∙ eight, sym (n.1 ∙ number_fits (take 8 d) (omega (arith, eight))))
 
-  word_other : hex_word (take 8 d) ≡ NotHex → leading is_hex (take 8 d) ≡ 8 → ⊥
+  word_other : hex_word (take 8 d) ≡ None → leading is_hex (take 8 d) ≡ 8 → ⊥
   word_other e f = none_word (take 8 d) e (f ∙ sym eight)
 
 module _ (d : List ℕ) where
@@ -208,14 +207,14 @@ module _ (d : List ℕ) where
   one_open h = let no : has_one (line_from d 0) ≡ false = one_word d ∙ rw (ne_eqb (get_or d 8 0) 10 h) in rw no
 
   module _ (e : get_or d 8 0 ≡ 10) where
-    pub one_none : hex_word (take 8 d) ≡ NotHex → one_of (line_from d 0) ≡ None
+    pub one_none : hex_word (take 8 d) ≡ None → one_of (line_from d 0) ≡ None
     one_none n =
         let long = inside d 8 10 e (omega arith) in
         let no : has_one (line_from d 0) ≡ false =
         one_word d ∙ rw (eq-eqb (get_or d 8 0) 10 e, ne_eqb (leading is_hex (take 8 d)) 8 (word_other d (omega arith) n)) in
         rw no
 
-    pub one_some : (w : ℕ) → hex_word (take 8 d) ≡ Number w → one_of (line_from d 0) ≡ Some w
+    pub one_some : (w : ℕ) → hex_word (take 8 d) ≡ Some w → one_of (line_from d 0) ≡ Some w
     unfolding line_at
     one_some w n =
         let long = inside d 8 10 e (omega arith) in
@@ -224,6 +223,11 @@ module _ (d : List ℕ) where
         let right : has_one (line_from d 0) ≡ true = one_word d ∙ here in
         let cut : line_from d 0 ≡ take 8 d = rw (alone_line d here) in
         rw (right, cut, digits.1)
+
+    -- the word of eight digits, if they are digits
+    pub one_is : (o : Option ℕ) → hex_word (take 8 d) ≡ o → one_of (line_from d 0) ≡ o
+    one_is None n = one_none n
+    one_is (Some w) n = one_some w n
 
   pub two_open : (get_or d 17 0 ≡ 10 → ⊥) → two_of (line_from d 0) ≡ None
   two_open h = let no : has_two (line_from d 0) ≡ false = two_words d ∙ rw (ne_eqb (get_or d 17 0) 10 h) in rw no
@@ -237,14 +241,14 @@ module _ (d : List ℕ) where
       pair_is : pair d ≡ eqb (leading is_hex (take 8 d)) 8 && eqb (leading is_hex (take 8 (drop 9 d))) 8
       pair_is = rw (eq-eqb (get_or d 17 0) 10 e, eq-eqb (get_or d 8 0) 32 f)
 
-      pub two_first : hex_word (take 8 d) ≡ NotHex → two_of (line_from d 0) ≡ None
+      pub two_first : hex_word (take 8 d) ≡ None → two_of (line_from d 0) ≡ None
       two_first n =
           let long = inside d 17 10 e (omega arith) in
           let no : has_two (line_from d 0) ≡ false =
           two_words d ∙ pair_is ∙ rw (ne_eqb (leading is_hex (take 8 d)) 8 (word_other d (omega arith) n)) in
           rw no
 
-      pub two_second : hex_word (take 8 (drop 9 d)) ≡ NotHex → two_of (line_from d 0) ≡ None
+      pub two_second : hex_word (take 8 (drop 9 d)) ≡ None → two_of (line_from d 0) ≡ None
       two_second n =
           let long = inside d 17 10 e (omega arith) in
           let no : has_two (line_from d 0) ≡ false =
@@ -254,7 +258,7 @@ module _ (d : List ℕ) where
           (and_false (eqb (leading is_hex (take 8 d)) 8)) in
           rw no
 
-      pub two_some : (v w : ℕ) → hex_word (take 8 d) ≡ Number v → hex_word (take 8 (drop 9 d)) ≡ Number w → two_of (line_from d 0) ≡ Some (v ∷ w ∷ [])
+      pub two_some : (v w : ℕ) → hex_word (take 8 d) ≡ Some v → hex_word (take 8 (drop 9 d)) ≡ Some w → two_of (line_from d 0) ≡ Some (v ∷ w ∷ [])
       unfolding line_at line_words
       two_some v w m n =
           let long = inside d 17 10 e (omega arith) in

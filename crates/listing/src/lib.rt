@@ -11,8 +11,6 @@ ghost use Rattle.listing.specs.Writing.{writing_of, after_write};
 ghost use Rattle.listing.specs.Scan.{line_from, one_of, two_of, count_if, words_if, words_met, words_decoded};
 ghost use Rattle.listing.specs.declared.Fault.TheVariants.{Malformed, TooMany};
 
-use base::HexWord;
-
 // Why a byte string is no listing. A line is counted from 1.
 #[derive(Clone, Copy, PartialEq, Eq)]
 pub enum Fault {
@@ -78,10 +76,7 @@ fn read_one(s: &[u8]) -> Option<u32>
     if *s.get(8)? != b'\n' {
         return None;
     }
-    let HexWord::Number(word) = base::hex_word(&s[..8]) else {
-        return None;
-    };
-    Some(word)
+    base::hex_word(&s[..8])
 }
 
 // The words of the line that a text begins with, where it has two with a space between.
@@ -94,12 +89,8 @@ fn read_two(s: &[u8]) -> Option<[u32; 2]>
     if s[8] != b' ' {
         return None;
     }
-    let HexWord::Number(one) = base::hex_word(&s[..8]) else {
-        return None;
-    };
-    let HexWord::Number(two) = base::hex_word(&s[9..17]) else {
-        return None;
-    };
+    let one = base::hex_word(&s[..8])?;
+    let two = base::hex_word(&s[9..17])?;
     Some([one, two])
 }
 

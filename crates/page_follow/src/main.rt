@@ -2,7 +2,6 @@
 // `refused N place P` on standard output. `program::follow` says which. IDENTITY is six upper-case hexadecimal digits.
 #![tactic(auto)]
 
-use base::HexWord;
 use std::io::Input;
 use std::rt::Env;
 
@@ -16,19 +15,17 @@ fn follow_input<R: Input + Print + Eprint>(rt: &R, identity: u32) {
 }
 
 // The identity of the one argument there must be.
-fn named<E: Env>(env: &E) -> HexWord {
+fn named<E: Env>(env: &E) -> Option<u32> {
     if program::argument_count(env) != 2 {
-        return HexWord::NotHex;
+        return None;
     }
     let mut argument = [0u8; 6];
-    let Some(n) = program::argument(env, 1, &mut argument) else {
-        return HexWord::NotHex;
-    };
+    let n = program::argument(env, 1, &mut argument)?;
     program::identity(&argument[..n])
 }
 
 fn main(rt: HostRuntime) {
-    let HexWord::Number(identity) = named(&rt) else {
+    let Some(identity) = named(&rt) else {
         let _ = eprintln!(rt; "page_follow: usage: page_follow IDENTITY");
         return;
     };

@@ -1,10 +1,8 @@
 -- What the programs print for their standard input, the sending one with its phrase book, the following one for its identity, and the
 -- coverage program for what its files add up to (document 01, "The two programs", and number 24 of its table; requests R-1, R-4, R-6, R-10
 -- and R-12).
-use Rattle.std.specs.Prelude.{ℕ, Bool, cond, List, [], ◌∷◌, ◌++◌, length, eqb, ltb}
+use Rattle.std.specs.Prelude.{ℕ, Bool, cond, Option, None, List, [], ◌∷◌, ◌++◌, length, eqb, ltb}
 use Rattle.base.specs.Hex.{hex_word}
-use Rattle.base.specs.declared.HexWord.{HexWord}
-use Rattle.base.specs.declared.HexWord.TheVariants.{NotHex}
 use Rattle.job.specs.Submission.{Submission}
 use Rattle.job_listing.specs.Listed as listed
 use Rattle.job_listing.specs.Listed.{listing_text, listed_of}
@@ -65,8 +63,8 @@ follow_prints i s =
     unless_long s (answer_text (following.number_of (follow_listing i s 48000)) (following.place_of (follow_listing i s 48000)) 0 (lines_of (follow_listing i s 48000) (pages_for i (words_of s))))
 
 -- the identity that its argument names: six upper-case digits, else none
-abbrev pub identity_named : List ℕ → HexWord
-identity_named a = cond (eqb (length a) 6) (hex_word a) NotHex
+abbrev pub identity_named : List ℕ → Option ℕ
+identity_named a = cond (eqb (length a) 6) (hex_word a) None
 
 -- the receiving program, which has room for 48,300 bytes: a recording's page lines in slot order (request R-10)
 unfoldable pub receive_prints : List ℕ → List ℕ

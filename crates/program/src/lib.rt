@@ -13,7 +13,6 @@ ghost use Rattle.program.specs.Input.{bytes_read};
 ghost use Rattle.program.specs.CoverageText.{coverage_text};
 ghost use Rattle.program.specs.Prints.{is_long, refusal_line, send_prints, read_prints, follow_prints, receive_prints, cover_prints, identity_named};
 
-use base::HexWord;
 use codeword::Engine;
 use coverage::{Adding, Coverage};
 use follower::Following;
@@ -195,11 +194,11 @@ pub fn read(engine: Engine, input: &[u8], out: &mut [u8; 48000]) -> usize
 }
 
 // The identity that the following program's argument names: six upper-case digits, or none.
-pub fn identity(argument: &[u8]) -> HexWord
+pub fn identity(argument: &[u8]) -> Option<u32>
     ensures { result ≡ identity_named argument.now }
 {
     if argument.len() != 6 {
-        return HexWord::NotHex;
+        return None;
     }
     base::hex_word(argument)
 }

@@ -1,7 +1,7 @@
 -- `listing::read_one` meets its contract: the newline stands behind eight digits, and these are the word. Assumes nothing.
 use Rattle.std.proofs.Common.{rules, tests, ◌≤◌, length, sym, ◌∙◌, arith}
 use lib.ListN.{get_or-eq_default}
-use Rattle.listing.proofs.FirstLine.{one_open, one_none, one_some}
+use Rattle.listing.proofs.FirstLine.{one_open, one_is}
 use Rattle.listing.proofs.read_one.Goals as goal
 
 pub returns-in_err-get : goal.returns-in_err-get
@@ -14,8 +14,5 @@ returns-in_err-get c =
 pub returns-then-branch-ne10 : goal.returns-then-branch-ne10
 returns-then-branch-ne10 c = sym (one_open c.args.s.now (λ e. search rules))
 
-pub returns-in_default : goal.returns-in_default
-returns-in_default c = sym (one_none c.args.s.now (search rules) (sym c.hex_word.ensures ∙ c.in_default.is))
-
 pub returns : goal.returns
-returns c = sym (one_some c.args.s.now (search rules) c.in-Number.word (sym c.hex_word.ensures ∙ c.in-Number.is))
+returns c = sym (one_is c.args.s.now (search rules) _ (sym c.hex_word.ensures))

@@ -20,13 +20,17 @@ returns-then-s-ne32 c =
     let newline = c.if-branch-ne10.false in
     sym (two_apart c.args.s.now (search rules) c.if-s-ne32.true)
 
-pub returns-in_default : goal.returns-in_default
-returns-in_default c = sym (two_first c.args.s.now (search rules) c.if-s-ne32.false (sym c.hex_word.ensures ∙ c.in_default.is))
+pub returns-in_err-one : goal.returns-in_err-one
+returns-in_err-one c =
+    let stops = two_first c.args.s.now (search rules) c.if-s-ne32.false (sym c.hex_word.ensures ∙ c.in_err-one.was) in
+    search rules
 
-pub returns-in_default-hex_word : goal.returns-in_default-hex_word
-returns-in_default-hex_word c = sym (two_second c.args.s.now (search rules) c.if-s-ne32.false (sym c.hex_word-2.ensures ∙ c.in_default-hex_word.is))
+pub returns-in_err-two : goal.returns-in_err-two
+returns-in_err-two c =
+    let stops = two_second c.args.s.now (search rules) c.if-s-ne32.false (sym c.hex_word-2.ensures ∙ c.in_err-two.was) in
+    search rules
 
 pub returns : goal.returns
 returns c =
-    sym (two_some c.args.s.now (search rules) c.if-s-ne32.false c.in-Number.one c.in-Number-hex_word.two
-    (sym c.hex_word.ensures ∙ c.in-Number.is) (sym c.hex_word-2.ensures ∙ c.in-Number-hex_word.is))
+    sym (two_some c.args.s.now (search rules) c.if-s-ne32.false c.in_ok-one.one c.in_ok-two.two
+    (sym c.hex_word.ensures ∙ c.in_ok-one.was) (sym c.hex_word-2.ensures ∙ c.in_ok-two.was))
