@@ -2,7 +2,7 @@
 use mathlib.Core.Path.{◌≡◌, refl, sym, ap, ◌∙◌}
 use mathlib.Core.Bool.{◌||◌}
 use mathlib.Core.List.{List}
-use Prim.Native.Nat.{ℕ, zero, suc, ◌+◌, ◌-◌, ◌*◌, ◌/◌, ◌%◌, ◌^◌, ◌≤◌, ◌<◌}
+use Prim.Native.Nat.{ℕ, ◌+◌, ◌-◌, ◌*◌, ◌/◌, ◌%◌, ◌^◌, ◌≤◌, ◌<◌}
 use native.Mathlib.Omega.{arith}
 use lib.Dec.{eqb}
 use lib.ListN.{length, get_or}
@@ -17,18 +17,6 @@ use Rattle.text.specs.declared.Bits.{Bits}
 use Rattle.text.specs.declared.Coding.TheVariants.{Numeric, Alphanumeric}
 use Rattle.text.proofs.PackLaws.{turned_cut}
 use Rattle.text.proofs.BitLaws.{low_same, low_bit, bits_back, bits_of, bits_add, bits_small, turned_low}
-
--- a number that is none of 0 to n - 1, one after the other, as a `match` leaves it
-abbrev NoneTo : ℕ → ℕ → Type 0
-NoneTo zero v = Unit {0}
-NoneTo (suc n) v = NoneTo n v × (v ≡ n → ⊥)
-
-none_to : (n v : ℕ) → NoneTo n v → n ≤ v
-none_to zero v h = omega arith
-none_to (suc n) v h = omega (arith, none_to n v h.0, h.1)
-
-pub last_value : (x : ℕ) → NoneTo 15 (x % 16) → x % 16 ≡ 15
-last_value x h = omega (arith, none_to 15 (x % 16) h)
 
 -- ---- bits turned round
 

@@ -17,8 +17,7 @@ use Rattle.text.specs.Numeric.{numeric_of, numeric_byte}
 use Rattle.text.specs.Coding.{char_ok, has_value, value_or0, ends_in_space, width_of, fill_of, value_of, bit_of, group_of, groups_of, groups_in}
 use Rattle.text.specs.Heard.{bit_in, shown, char_heard, whole_in, chars_in, ahead, trimmed, goes_on, until_end, heard_text}
 use Rattle.text.specs.Back.{Back}
-use Rattle.text.specs.declared.NumericValue.{NumericValue}
-use Rattle.text.specs.declared.NumericValue.TheVariants.{Value}
+use Rattle.std.specs.Prelude.{Option, Some}
 use Rattle.text.specs.declared.Coding.{Coding}
 use Rattle.text.specs.declared.Coding.TheVariants.{Numeric, Alphanumeric}
 use Rattle.text.proofs.BitLaws.{low_same}
@@ -56,14 +55,14 @@ char_back c bytes n i h =
 
 -- ---- the characters of a coding are heard as they are
 
-abbrev Same : ℕ → NumericValue → Type 0
+abbrev Same : ℕ → Option ℕ → Type 0
 Same b x = has_value x ≡ true → numeric_byte (value_or0 x % 16) ≡ b
 
-choose : (b : ℕ) (t : Bool) (x y : NumericValue) → (t ≡ true → Same b x) → (t ≡ false → Same b y) → Same b (cond t x y)
+choose : (b : ℕ) (t : Bool) (x y : Option ℕ) → (t ≡ true → Same b x) → (t ≡ false → Same b y) → Same b (cond t x y)
 choose b true x y f g = f refl
 choose b false x y f g = g refl
 
-digit_back : (b : ℕ) → between 48 57 b ≡ true → Same b (Value (b - 48))
+digit_back : (b : ℕ) → between 48 57 b ≡ true → Same b (Some (b - 48))
 unfolding numeric_byte
 digit_back b e _ =
     let h = and_true (leb 48 b) (leb b 57) e in
@@ -74,7 +73,7 @@ digit_back b e _ =
     let u : leb (b - 48) 9 ≡ true = le-leb (b - 48) 9 (omega arith) in
     rw (v, t, u) (omega arith)
 
-letter_back : (b n : ℕ) → eqb b (numeric_byte (n % 16)) ≡ true → Same b (Value n)
+letter_back : (b n : ℕ) → eqb b (numeric_byte (n % 16)) ≡ true → Same b (Some n)
 letter_back b n e _ = sym (eqb-true b (numeric_byte (n % 16)) e)
 
 byte_back : (c : Coding) (b : ℕ) → char_ok c b ≡ true → heard c b ≡ b

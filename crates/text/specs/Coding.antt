@@ -1,22 +1,20 @@
 -- Texts as bits (document 01, "Texts"): which characters a coding has, and the 20 bits of each group.
-use Rattle.std.specs.Prelude.{ℕ, zero, suc, ◌+◌, ◌-◌, ◌*◌, ◌/◌, ◌%◌, ◌^◌, List, [], ◌∷◌, Bool, true, false, cond, not, ◌&&◌, eqb, length, get_or}
+use Rattle.std.specs.Prelude.{ℕ, zero, suc, ◌+◌, ◌-◌, ◌*◌, ◌/◌, ◌%◌, ◌^◌, List, [], ◌∷◌, Bool, true, false, cond, not, ◌&&◌, eqb, length, get_or, Option, Some, None}
 use Rattle.base.specs.Hex.{between, is_hex, hex_of}
 use Rattle.base.specs.Lists.{tab}
 use Rattle.text.specs.Numeric.{numeric_of}
-use Rattle.text.specs.declared.NumericValue.{NumericValue}
-use Rattle.text.specs.declared.NumericValue.TheVariants.{Value, NotNumeric}
 use Rattle.text.specs.declared.Coding.{Coding}
 use Rattle.text.specs.declared.Coding.TheVariants.{Numeric, Alphanumeric}
 
 -- whether there is a value
-abbrev pub has_value : NumericValue → Bool
-has_value (Value n) = true
-has_value NotNumeric = false
+abbrev pub has_value : Option ℕ → Bool
+has_value (Some n) = true
+has_value None = false
 
 -- the value, or 0 where there is none
-abbrev pub value_or0 : NumericValue → ℕ
-value_or0 (Value n) = n
-value_or0 NotNumeric = 0
+abbrev pub value_or0 : Option ℕ → ℕ
+value_or0 (Some n) = n
+value_or0 None = 0
 
 -- the Table III characters, without the spare
 abbrev pub is_numeric : ℕ → Bool

@@ -1,19 +1,17 @@
 -- Table III: the numeric characters, both ways.
-use Rattle.std.specs.Prelude.{ℕ, ◌+◌, ◌-◌, cond, eqb}
+use Rattle.std.specs.Prelude.{ℕ, ◌+◌, ◌-◌, cond, eqb, Option, Some, None}
 use Rattle.base.specs.Hex.{between}
-use Rattle.text.specs.declared.NumericValue.{NumericValue}
-use Rattle.text.specs.declared.NumericValue.TheVariants.{Value, NotNumeric}
 
 -- 0-9 are themselves, 11 is U, 12 space, 13 hyphen, 14 ], 15 [
-unfoldable pub numeric_of : ℕ → NumericValue
+unfoldable pub numeric_of : ℕ → Option ℕ
 numeric_of b =
-    cond (between 48 57 b) (Value (b - 48))
-    (cond (eqb b 85) (Value 11)
-    (cond (eqb b 32) (Value 12)
-    (cond (eqb b 45) (Value 13)
-    (cond (eqb b 93) (Value 14)
-    (cond (eqb b 91) (Value 15)
-    NotNumeric)))))
+    cond (between 48 57 b) (Some (b - 48))
+    (cond (eqb b 85) (Some 11)
+    (cond (eqb b 32) (Some 12)
+    (cond (eqb b 45) (Some 13)
+    (cond (eqb b 93) (Some 14)
+    (cond (eqb b 91) (Some 15)
+    None)))))
 
 -- the character of a value; the spare, and what is no four-bit value, is *
 unfoldable pub numeric_byte : ℕ → ℕ

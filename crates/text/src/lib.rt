@@ -21,29 +21,24 @@ pub enum Coding {
     Alphanumeric,
 }
 
-// What a byte is as a numeric character: its four-bit value, or none.
-#[derive(Clone, Copy)]
-enum NumericValue {
-    Value(u8),
-    NotNumeric,
-}
-
 // Table III, from the byte to the value. The spare value has no character.
-fn numeric_value(b: u8) -> NumericValue
+#[tactic(auto, unfolding(crate::specs::Numeric::numeric_of))]
+fn numeric_value(b: u8) -> Option<u8>
     ensures { result ≡ numeric_of b }
 {
     match b {
-        b'0'..=b'9' => NumericValue::Value(b - b'0'),
-        b'U' => NumericValue::Value(11),
-        b' ' => NumericValue::Value(12),
-        b'-' => NumericValue::Value(13),
-        b']' => NumericValue::Value(14),
-        b'[' => NumericValue::Value(15),
-        _ => NumericValue::NotNumeric,
+        b'0'..=b'9' => Some(b - b'0'),
+        b'U' => Some(11),
+        b' ' => Some(12),
+        b'-' => Some(13),
+        b']' => Some(14),
+        b'[' => Some(15),
+        _ => None,
     }
 }
 
 // Table III, from the value to the byte. The spare is shown as `*`.
+#[tactic(auto, unfolding(crate::specs::Numeric::numeric_byte))]
 fn numeric_byte(v: u8) -> u8
     ensures { result ≡ numeric_byte v }
 {
@@ -62,11 +57,7 @@ fn numeric_byte(v: u8) -> u8
 fn is_numeric(b: u8) -> bool
     ensures { result ≡ is_numeric b }
 {
-    let v = numeric_value(b);
-    match v {
-        NumericValue::Value(_) => true,
-        NumericValue::NotNumeric => false,
-    }
+    numeric_value(b).is_some()
 }
 
 // Whether a byte is among the characters of a coding.
@@ -88,8 +79,7 @@ fn is_char(c: Coding, b: u8) -> bool
 pub fn char_run(c: Coding, text: &[u8]) -> usize
     ensures { result ≡ char_run c text.now }
 {
-    let mut k = 0;
-    while k < text.len() / 2 {
+    for k in 0..text.len() / 2 {
         let high = base::digit_value(text[2 * k]);
         let low = base::digit_value(text[2 * k + 1]);
         if 16 <= high | low {
@@ -98,9 +88,8 @@ pub fn char_run(c: Coding, text: &[u8]) -> usize
         if !is_char(c, high * 16 + low) {
             return k;
         }
-        k += 1;
     }
-    k
+    text.len() / 2
 }
 
 // Whether a numeric text ends in a space.
@@ -130,6 +119,7 @@ fn width(c: Coding) -> usize
 }
 
 // The value of a hexadecimal digit with its four bits turned round; 0 for any other byte. One arm a digit: a table.
+#[tactic(auto, unfolding(base::specs::Hex::hex_of, crate::specs::Coding::turned_of, crate::specs::Coding::bits_from))]
 fn turned_digit(b: u8) -> u32
     ensures { result ≡ turned_of 4 (hex_of b) }
 {
@@ -155,6 +145,7 @@ fn turned_digit(b: u8) -> u32
 }
 
 // Four bits turned round. One arm a value: a table, where turning them would be a loop.
+#[tactic(auto, unfolding(crate::specs::Coding::turned_of, crate::specs::Coding::bits_from))]
 fn turned_bits(bits: u32) -> u8
     ensures { result ≡ turned_of 4 (bits % 16) }
 {
@@ -182,11 +173,7 @@ fn turned_bits(bits: u32) -> u8
 fn value_or_zero(b: u8) -> u8
     ensures { result ≡ value_of Numeric b }
 {
-    let v = numeric_value(b);
-    match v {
-        NumericValue::Value(n) => n,
-        NumericValue::NotNumeric => 0,
-    }
+    numeric_value(b).unwrap_or(0)
 }
 
 // The bits of the character at index k, the first to be sent on top; those of fill behind the last.
@@ -194,7 +181,10 @@ fn char_bits(c: Coding, text: &[u8], k: usize) -> u32
     ensures { result ≡ turned_of (width_of c) (value_of c (get_or (bytes_of text.now) k (fill_of c))) }
 {
     match c {
-        Coding::Numeric => turned_bits(value_or_zero(base::pair_byte(text, k, b' ')) as u32) as u32,
+        Coding::Numeric => {
+            let value = u32::from(value_or_zero(base::pair_byte(text, k, b' ')));
+            u32::from(turned_bits(value))
+        }
         Coding::Alphanumeric => {
             if text.len() / 2 <= k {
                 return 0;
@@ -213,45 +203,37 @@ struct Bits {
     next: usize,
 }
 
+const NO_BITS: Bits = Bits {
+    window: 0,
+    have: 0,
+    next: 0,
+};
+
 // Characters behind the bits until there are 20.
-fn refill(c: Coding, text: &[u8], b: Bits) -> Bits
+fn refill(c: Coding, text: &[u8], mut b: Bits) -> Bits
     requires { Few b }
     ensures { Refilled c (bytes_of text.now) b result }
 {
     let w = width(c);
-    let mut window = b.window;
-    let mut have = b.have;
-    let mut k = b.next;
-    while have < 20 {
-        window = (window << w) + char_bits(c, text, k) as u64;
-        have += w;
-        k += 1;
+    while b.have < 20 {
+        b.window = (b.window << w) + u64::from(char_bits(c, text, b.next));
+        b.have += w;
+        b.next += 1;
     }
-    Bits {
-        window: window,
-        have: have,
-        next: k,
-    }
+    b
 }
 
 // Fills a slice with a text's first groups, each with its first bit on top. One pass: each character is read once.
 pub fn write_groups(c: Coding, text: &[u8], groups: &mut [u32])
     ensures { groups.new ≡ tab (group_of c (bytes_of text.now)) (length groups.old) }
 {
-    let count = groups.len();
-    let mut b = Bits {
-        window: 0,
-        have: 0,
-        next: 0,
-    };
-    let mut g = 0;
-    while g < count {
+    let mut b = NO_BITS;
+    for group in groups.iter_mut() {
         b = refill(c, text, b);
         let rest = b.have - 20;
-        groups[g] = (b.window >> rest) as u32;
-        b.window = b.window % (1 << rest);
+        *group = (b.window >> rest) as u32;
+        b.window %= 1 << rest;
         b.have = rest;
-        g += 1;
     }
 }
 
@@ -260,11 +242,8 @@ pub fn write_groups(c: Coding, text: &[u8], groups: &mut [u32])
 pub fn write_fives(digits: &[u8], groups: &mut [u32])
     ensures { groups.new ≡ tab (five_at digits.now) (length groups.old) }
 {
-    let count = groups.len();
-    let mut g = 0;
-    while g < count {
-        groups[g] = base::hex_number(base::part(digits, 5 * g, 5));
-        g += 1;
+    for (g, group) in groups.iter_mut().enumerate() {
+        *group = base::hex_number(base::part(digits, 5 * g, 5));
     }
 }
 
@@ -272,11 +251,11 @@ pub fn write_fives(digits: &[u8], groups: &mut [u32])
 pub fn groups(c: Coding, count: u16) -> usize
     ensures { result ≡ groups_of c count }
 {
-    let w = width(c);
-    ((count as usize) * w + 19) / 20
+    (usize::from(count) * width(c) + 19) / 20
 }
 
 // The hexadecimal digit of four bits, the lowest first: a table too.
+#[tactic(auto, unfolding(base::specs::Hex::digit_of, crate::specs::Coding::turned_of, crate::specs::Coding::bits_from))]
 fn bits_digit(bits: u32) -> u8
     ensures { result ≡ digit_of (turned_of 4 (bits % 16)) }
 {
@@ -313,14 +292,12 @@ fn numeric_char(groups: &[u32], i: usize) -> u8
 fn numeric_length(groups: &[u32]) -> usize
     ensures { result ≡ length (heard_text Numeric groups.now) }
 {
-    let mut n = 5 * groups.len();
-    while 0 < n {
-        if numeric_char(groups, n - 1) != b' ' {
-            return n;
+    for i in (0..5 * groups.len()).rev() {
+        if numeric_char(groups, i) != b' ' {
+            return i + 1;
         }
-        n -= 1;
     }
-    n
+    0
 }
 
 // Writes the numeric text of groups as pairs of digits, and answers how many digits they are.
@@ -330,14 +307,12 @@ fn write_numeric(groups: &[u32], digits: &mut [u8]) -> usize
     ensures digits_after { digits.new ≡ over digits.old (heard_digits Numeric groups.now) }
 {
     let n = numeric_length(groups);
-    let mut i = 0;
-    while i < n {
-        let b = numeric_char(groups, i) as u32;
+    for i in 0..n {
+        let b = u32::from(numeric_char(groups, i));
         digits[2 * i] = base::hex_digit(b / 16);
         digits[2 * i + 1] = base::hex_digit(b);
-        i += 1;
     }
-    2 * i
+    2 * n
 }
 
 // The same bits, and behind them those of the next group where there are fewer than a character's seven and a group is left.
@@ -352,7 +327,7 @@ fn more(b: Bits, groups: &[u32]) -> Bits
         return b;
     }
     Bits {
-        window: b.window % 128 * 1048576 + (groups[next] % 1048576) as u64,
+        window: b.window % 128 * 1048576 + u64::from(groups[next] % 1048576),
         have: b.have + 20,
         next: next + 1,
     }
@@ -375,11 +350,7 @@ fn write_alphanumeric(groups: &[u32], digits: &mut [u8]) -> usize
     ensures value { result ≡ length (heard_digits Alphanumeric groups.now) }
     ensures digits_after { digits.new ≡ over digits.old (heard_digits Alphanumeric groups.now) }
 {
-    let mut b = Bits {
-        window: 0,
-        have: 0,
-        next: 0,
-    };
+    let mut b = NO_BITS;
     let mut i = 0;
     loop {
         b = more(b, groups);
@@ -397,26 +368,17 @@ fn write_alphanumeric(groups: &[u32], digits: &mut [u8]) -> usize
     }
 }
 
-// What writing the text of groups answers.
-#[derive(Clone, Copy)]
-pub enum Digits {
-    // How many digits are written.
-    Written(usize),
-    // The lent slice has fewer than ten digits a group: nothing is written.
-    NoRoom,
-}
-
 // Writes the text of groups as pairs of digits over the front of the slice. It asks for ten digits a group, the most that a group's five
-// characters take, whatever the text is.
-pub fn write_heard(c: Coding, groups: &[u32], digits: &mut [u8]) -> Digits
+// characters take, whatever the text is. The number of digits written, or none where there is no room: then nothing is written.
+pub fn write_heard(c: Coding, groups: &[u32], digits: &mut [u8]) -> Option<usize>
     ensures value { result ≡ heard_into c groups.now (length digits.old) }
     ensures digits_after { digits.new ≡ over digits.old (take (count_of result) (heard_digits c groups.now)) }
 {
     if digits.len() / 10 < groups.len() {
-        return Digits::NoRoom;
+        return None;
     }
     match c {
-        Coding::Numeric => Digits::Written(write_numeric(groups, digits)),
-        Coding::Alphanumeric => Digits::Written(write_alphanumeric(groups, digits)),
+        Coding::Numeric => Some(write_numeric(groups, digits)),
+        Coding::Alphanumeric => Some(write_alphanumeric(groups, digits)),
     }
 }

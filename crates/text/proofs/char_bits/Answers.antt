@@ -30,8 +30,8 @@ pub returns-in-Numeric : goal.returns-in-Numeric
 returns-in-Numeric c =
     let a = c.args in
     let b = get_or (bytes_of a.text.now) a.k 32 in
-    let value = c.value_or_zero.ensures ∙ ap (value_of Numeric) c.pair_byte.ensures in
-    rw c.in-Numeric.is (c.turned_bits.ensures ∙ ap (λ (v : ℕ). turned_of 4 (v % 16)) value ∙ turned_cut 4 (value_of Numeric b))
+    let value = c.from-value.ensures ∙ c.value_or_zero.ensures ∙ ap (value_of Numeric) c.pair_byte.ensures in
+    rw c.in-Numeric.is (c.from.ensures ∙ c.turned_bits.ensures ∙ ap (λ (v : ℕ). turned_of 4 (v % 16)) value ∙ turned_cut 4 (value_of Numeric b))
 
 pub returns-else-text-k : goal.returns-else-text-k
 returns-else-text-k c =

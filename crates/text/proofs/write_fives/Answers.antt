@@ -2,7 +2,7 @@ use mathlib.Core.Path.{◌≡◌, refl, ap, ◌∙◌}
 use mathlib.Core.List.{List}
 use native.Mathlib.Omega.{arith}
 use Prim.Native.Nat.{ℕ, ◌*◌, ◌%◌, ◌^◌, ◌≤◌}
-use lib.ListN.{length, take, drop, length-set, length-take}
+use lib.ListN.{length, take, drop, length-take}
 use Rattle.base.specs.Hex.{hex_number}
 use Rattle.base.proofs.HexLaws.{number_fits}
 use Rattle.base.proofs.ListLaws.{tab_turn, tab_full}
@@ -10,7 +10,7 @@ use Rattle.text.specs.Fives.{five_at}
 use Rattle.text.proofs.write_fives.Goals as goal
 
 pub loop-g-init : goal.loop-g-init
-loop-g-init c = (omega arith, refl, refl)
+loop-g-init c = refl
 
 -- the number of five digits fits a word
 five : (digits : List ℕ) (g : ℕ) {part : List ℕ} {n : ℕ} → part ≡ take 5 (drop (5 * g) digits) → n ≡ hex_number 0 part % 2 ^ 32 → n ≡ five_at digits g
@@ -23,14 +23,11 @@ loop-g-preserved c =
     let l = c.loop-g in
     let a = c.args in
     let digits = a.digits.now in
-    let old = a.groups.now in (
-      omega arith,
-      length-set l.groups l.g c.hex_number.result ∙ l.invariant.1,
-      tab_turn (five_at digits) (length old) old refl l.g l.invariant.2 (omega arith) (five digits l.g c.part.ensures.result_value c.hex_number.ensures),
-    )
+    let old = a.groups.now in
+    tab_turn (five_at digits) (length old) old refl l.g l.invariant (omega arith) (five digits l.g c.part.ensures.result_value c.hex_number.ensures)
 
 pub returns : goal.returns
 returns c =
     let a = c.args in
     let l = c.loop-g in
-    tab_full (five_at a.digits.now) (length a.groups.now) a.groups.now refl l.g l.invariant.2 (omega arith)
+    tab_full (five_at a.digits.now) (length a.groups.now) a.groups.now refl l.g l.invariant (omega arith)

@@ -1,6 +1,5 @@
 -- `text::write_fives` meets its contract. The invariant: the first g groups are written. Assumes nothing.
 use mathlib.Core.Path.{◌≡◌}
-use Prim.Native.Nat.{◌-◌, ◌≤◌}
 use lib.ListN.{length}
 use Rattle.base.specs.Lists.{tab}
 use Rattle.base.proofs.ListLaws.{filled}
@@ -8,7 +7,4 @@ use Rattle.text.specs.Fives.{five_at}
 use Rattle.text.proofs.write_fives.Given as goal
 
 abbrev pub invariant-loop-g : goal.invariant-loop-g
-invariant-loop-g l = (l.g ≤ length l.initial.groups) × (length l.groups ≡ length l.initial.groups) × (l.groups ≡ filled l.initial.groups (tab (five_at l.digits) (length l.initial.groups)) l.g)
-
-abbrev pub decreases-loop-g : goal.decreases-loop-g
-decreases-loop-g l = length l.initial.groups - l.g
+invariant-loop-g l = l.groups ≡ filled l.initial.groups (tab (five_at l.digits) (length l.initial.groups)) l.g
