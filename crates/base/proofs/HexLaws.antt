@@ -32,27 +32,6 @@ hex_small b =
     (λ e. leb-true b 57 (and_true (leb 48 b) (leb b 57) e).1)
     (λ e. leb-true b 70 (and_true (leb 65 b) (leb b 70) e).1)
 
--- a byte that is no digit: it is none of them, one after the other
-pub past : (lo hi b : ℕ) → (b ≡ lo → ⊥) → between (lo + 1) hi b ≡ false → between lo hi b ≡ false
-past lo hi b ne e = go (leb lo b) (leb b hi) refl refl
-  where
-    go : (p q : Bool) → leb lo b ≡ p → leb b hi ≡ q → p && q ≡ false
-    go false q u v = refl
-    go true false u v = refl
-    go true true u v = let h = leb-true lo b u in absurd (true_false (and_both (le-leb (lo + 1) b (omega (arith, ne))) v) e)
-
-pub behind : (lo hi b : ℕ) → hi < lo → between lo hi b ≡ false
-behind lo hi b h = go (leb lo b) (leb b hi) refl refl
-  where
-    go : (p q : Bool) → leb lo b ≡ p → leb b hi ≡ q → p && q ≡ false
-    go false q u v = refl
-    go true false u v = refl
-    go true true u v = let x = leb-true lo b u in let y = leb-true b hi v in let z : ⊥ = omega arith in absurd z
-
-pub none_value : (b : ℕ) → between 48 57 b ≡ false → between 65 70 b ≡ false → 16 ≡ digit_value b
-unfolding digit_value is_hex
-none_value b p q = rw (p, q)
-
 -- the value tells whether there is one
 ltb_at : (p : Bool) (v : ℕ) → v ≤ 15 → ltb (cond p v 16) 16 ≡ p
 ltb_at true v h = lt-ltb v 16 (omega arith)
