@@ -18,7 +18,7 @@ ghost use Rattle.reader.specs.Progress.{Buffers, Room, Messages, Idles, Quiet, w
 ghost use Rattle.reader.specs.declared.Verdict.TheVariants.{Sound};
 
 use codeword::{Codeword, Corrected, Engine};
-use text::{Coding, Digits};
+use text::Coding;
 
 // What a received word says.
 #[derive(Clone, Copy)]
@@ -217,7 +217,7 @@ fn write_text(c: Coding, groups: &[u32], digits: &mut [u8]) -> usize
     ensures value { result ≡ length (heard_digits c groups.now) }
     ensures digits_after { digits.new ≡ over digits.old (heard_digits c groups.now) }
 {
-    let Digits::Written(n) = text::write_heard(c, groups, digits) else {
+    let Some(n) = text::write_heard(c, groups, digits) else {
         return 0;
     };
     n

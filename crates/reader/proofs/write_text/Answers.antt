@@ -9,29 +9,28 @@ use borrow.Author.Tests.{le-ltb}
 use Rattle.base.specs.Lists.{over}
 use Rattle.text.specs.Answer.{heard_digits, heard_into, count_of}
 use Rattle.text.specs.declared.Coding.{Coding}
-use Rattle.text.specs.declared.Digits.{Digits}
-use Rattle.text.specs.declared.Digits.TheVariants.{Written, NoRoom}
+use Rattle.std.specs.Prelude.{Option, Some, None}
 use Rattle.reader.proofs.write_text.Goals.{After-write_heard}
 use Rattle.reader.proofs.write_text.Goals as goal
 
-all_written : (c : Coding) (gs old : List ℕ) {r : Digits} {out : List ℕ} → 10 * length gs ≤ length old
+all_written : (c : Coding) (gs old : List ℕ) {r : Option ℕ} {out : List ℕ} → 10 * length gs ≤ length old
     → (r ≡ heard_into c gs (length old)) × (out ≡ over old (take (count_of r) (heard_digits c gs)))
-    → (r ≡ Written (length (heard_digits c gs))) × (out ≡ over old (heard_digits c gs))
+    → (r ≡ Some (length (heard_digits c gs))) × (out ≡ over old (heard_digits c gs))
 all_written c gs old h w =
     let ds = heard_digits c gs in
-    let room : heard_into c gs (length old) ≡ Written (length ds) = rw (le-ltb (length old) (10 * length gs) h) in
+    let room : heard_into c gs (length old) ≡ Some (length ds) = rw (le-ltb (length old) (10 * length gs) h) in
     let r = w.0 ∙ room in
-    (r, w.1 ∙ ap (over old) (ap (λ (a : Digits). take (count_of a) ds) r ∙ take_all (length ds) ds (omega arith)))
+    (r, w.1 ∙ ap (over old) (ap (λ (a : Option ℕ). take (count_of a) ds) r ∙ take_all (length ds) ds (omega arith)))
 
-no_room : {n : ℕ} → NoRoom ≡ Written n → ⊥
+no_room : {n : ℕ} → None ≡ Some n → ⊥
 no_room e = let z : ◌≡◌ {A = ℕ} 0 1 = cc in omega arith
 
-count : {m n : ℕ} → Written m ≡ Written n → m ≡ n
+count : {m n : ℕ} → Some m ≡ Some n → m ≡ n
 count e = cc
 
 there : (c : After-write_heard) →
     let a = c.args in
-    (c.write_heard.result ≡ Written (length (heard_digits a.c a.groups.now))) × (c.write_heard.new.digits ≡ over a.digits.now (heard_digits a.c a.groups.now))
+    (c.write_heard.result ≡ Some (length (heard_digits a.c a.groups.now))) × (c.write_heard.new.digits ≡ over a.digits.now (heard_digits a.c a.groups.now))
 there c =
     all_written c.args.c c.args.groups.now c.args.digits.now c.requires (c.write_heard.ensures.value, c.write_heard.ensures.digits_after)
 
@@ -42,6 +41,6 @@ pub returns : goal.returns
 returns c =
     let t = there (goal.at.returns c).After-write_heard in
     record {
-      value = count (sym c.in-Written.is ∙ t.0);
+      value = count (sym c.in-Some.is ∙ t.0);
       digits_after = t.1;
     }
