@@ -9,7 +9,7 @@ use codeword::{Codeword, Corrected, Engine};
 use job::JobAnswer;
 use reader::Reading;
 use std::io::Read;
-use text::{Coding, Digits};
+use text::Coding;
 use transmission::Report;
 
 fn print(rt: &impl Print, s: &[u8]) {
@@ -116,7 +116,7 @@ fn heard(rt: &impl Print, line: &[u8]) {
 
 fn print_heard(rt: &impl Print, coding: Coding, groups: &[u32; 2]) {
     let mut digits = [0u8; 20];
-    let Digits::Written(n) = text::write_heard(coding, groups, &mut digits) else {
+    let Some(n) = text::write_heard(coding, groups, &mut digits) else {
         return;
     };
     let mut i: usize = 0;
