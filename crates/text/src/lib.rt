@@ -118,33 +118,8 @@ fn width(c: Coding) -> usize
     }
 }
 
-// The value of a hexadecimal digit with its four bits turned round; 0 for any other byte. One arm a digit: a table.
-#[tactic(auto, unfolding(base::specs::Hex::hex_of, crate::specs::Coding::turned_of, crate::specs::Coding::bits_from))]
-fn turned_digit(b: u8) -> u32
-    ensures { result ≡ turned_of 4 (hex_of b) }
-{
-    match b {
-        b'0' => 0,
-        b'1' => 8,
-        b'2' => 4,
-        b'3' => 12,
-        b'4' => 2,
-        b'5' => 10,
-        b'6' => 6,
-        b'7' => 14,
-        b'8' => 1,
-        b'9' => 9,
-        b'A' => 5,
-        b'B' => 13,
-        b'C' => 3,
-        b'D' => 11,
-        b'E' => 7,
-        b'F' => 15,
-        _ => 0,
-    }
-}
-
-// Four bits turned round. One arm a value: a table, where turning them would be a loop.
+// Four bits turned round. One arm a value: a table, where turning them would be a loop. With a digit's value or a value's digit it is one
+// table all the same.
 #[tactic(auto, unfolding(crate::specs::Coding::turned_of, crate::specs::Coding::bits_from))]
 fn turned_bits(bits: u32) -> u8
     ensures { result ≡ turned_of 4 (bits % 16) }
@@ -167,6 +142,14 @@ fn turned_bits(bits: u32) -> u8
         14 => 7,
         _ => 15,
     }
+}
+
+// The value of a hexadecimal digit with its four bits turned round; 0 for any other byte.
+fn turned_digit(b: u8) -> u32
+    ensures { result ≡ turned_of 4 (hex_of b) }
+{
+    let value = u32::from(base::hex_value(b));
+    u32::from(turned_bits(value))
 }
 
 // The value of a numeric character; 0 for any other byte.
@@ -254,29 +237,11 @@ pub fn groups(c: Coding, count: u16) -> usize
     (usize::from(count) * width(c) + 19) / 20
 }
 
-// The hexadecimal digit of four bits, the lowest first: a table too.
-#[tactic(auto, unfolding(base::specs::Hex::digit_of, crate::specs::Coding::turned_of, crate::specs::Coding::bits_from))]
+// The hexadecimal digit of four bits, the lowest first.
 fn bits_digit(bits: u32) -> u8
     ensures { result ≡ digit_of (turned_of 4 (bits % 16)) }
 {
-    match bits % 16 {
-        0 => b'0',
-        1 => b'8',
-        2 => b'4',
-        3 => b'C',
-        4 => b'2',
-        5 => b'A',
-        6 => b'6',
-        7 => b'E',
-        8 => b'1',
-        9 => b'9',
-        10 => b'5',
-        11 => b'D',
-        12 => b'3',
-        13 => b'B',
-        14 => b'7',
-        _ => b'F',
-    }
+    base::hex_digit(u32::from(turned_bits(bits)))
 }
 
 // The numeric character at index i of groups, five a group.
