@@ -1,9 +1,7 @@
 -- `follower::follow_into` meets its contract. Assumes nothing.
-use mathlib.Core.Path.{◌≡◌, refl, ap₂, ◌∙◌}
-use mathlib.Core.List.{List, ◌++◌}
-use Prim.Native.Nat.{ℕ}
-use lib.ListN.{length, drop}
-use Rattle.base.specs.Lists.{over}
+use mathlib.Core.Path.{refl, ◌∙◌}
+use lib.ListN.{length}
+use Rattle.base.proofs.ListLaws.{copied}
 use Rattle.follower.specs.Pages.{pages_for}
 use Rattle.follower.specs.Progress.{Kept}
 use Rattle.follower.proofs.AnswerLaws.{too_long, all_followed}
@@ -13,10 +11,6 @@ use Rattle.follower.proofs.follow_into.Goals as goal
 -- once all slots are passed
 kept : (c : After-follow_all-followed) → Kept (pages_for c.args.identity c.args.words.now) c.follow_all-followed.result c.follow_all-followed.new.lines
 kept c = c.follow_all-followed.ensures
-
--- the lines go over the front, and what stands behind them stays
-copied : (old : List ℕ) {text front : List ℕ} {n : ℕ} → n ≡ length text → front ≡ text → front ++ drop n old ≡ over old text
-copied old size e = ap₂ (λ (t : List ℕ) (k : ℕ). t ++ drop k old) e size
 
 pub returns-then-out-n : goal.returns-then-out-n
 returns-then-out-n c =

@@ -1,9 +1,6 @@
 -- `reader::read_into` meets its contract. Assumes nothing.
-use mathlib.Core.Path.{◌≡◌, refl, ap₂, ◌∙◌}
-use mathlib.Core.List.{List, ◌++◌}
-use Prim.Native.Nat.{ℕ}
-use lib.ListN.{length, drop}
-use Rattle.base.specs.Lists.{over}
+use mathlib.Core.Path.{refl, ◌∙◌}
+use Rattle.base.proofs.ListLaws.{copied}
 use Rattle.reader.specs.Progress.{KeptAll}
 use Rattle.reader.proofs.AnswerLaws.{no_room, all_read}
 use Rattle.reader.proofs.read_into.Goals.{After-hear_all-p}
@@ -12,10 +9,6 @@ use Rattle.reader.proofs.read_into.Goals as goal
 -- once all slots are heard
 kept : (c : After-hear_all-p) → let a = c.args in KeptAll a.cut a.symbols.now c.hear_all-p.result c.hear_all-p.new.lines
 kept c = c.hear_all-p.ensures
-
--- the lines go over the front, and what stands behind them stays
-copied : (old : List ℕ) {text front : List ℕ} {n : ℕ} → n ≡ length text → front ≡ text → front ++ drop n old ≡ over old text
-copied old size e = ap₂ (λ (t : List ℕ) (k : ℕ). t ++ drop k old) e size
 
 pub returns-then-out-n : goal.returns-then-out-n
 returns-then-out-n c =

@@ -1,12 +1,10 @@
 -- `receiver::receive` meets its contract. Assumes nothing.
-use mathlib.Core.Path.{◌≡◌, refl, sym, ap₂, subst, ◌∙◌}
-use mathlib.Core.List.{List, ◌++◌}
+use mathlib.Core.Path.{◌≡◌, refl, sym, subst, ◌∙◌}
 use Prim.Native.Nat.{ℕ}
 use native.Mathlib.Omega.{arith}
-use lib.ListN.{length, take, drop}
+use lib.ListN.{length, take}
 use lib.Seq.{length-take-le}
-use Rattle.base.specs.Lists.{over}
-use Rattle.base.proofs.ListLaws.{stands_inside, stands_size}
+use Rattle.base.proofs.ListLaws.{copied, stands_inside, stands_size}
 use Rattle.reader.specs.Lines.{lines_heard}
 use Rattle.receiver.specs.Answers.{heard_bits, receive_bits, lines_received, totals_received}
 use Rattle.receiver.specs.declared.Receiving.{Receiving}
@@ -30,10 +28,6 @@ stands : (c : In-Received) → take c.in-Received.t.bytes c.receive_all.new.line
 stands c =
     subst (λ (r : Receiving). take (totals_received r).bytes c.receive_all.new.lines ≡ lines_received r c.args.bits.now)
     c.in-Received.is c.receive_all.ensures.lines_after
-
--- the lines go over the front, and what stands behind them stays
-copied : (old : List ℕ) {text front : List ℕ} {n : ℕ} → n ≡ length text → front ≡ text → front ++ drop n old ≡ over old text
-copied old size e = ap₂ (λ (t : List ℕ) (k : ℕ). t ++ drop k old) e size
 
 pub returns-in_default : goal.returns-in_default
 returns-in_default c =
