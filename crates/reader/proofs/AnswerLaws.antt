@@ -7,13 +7,12 @@ use native.Mathlib.Omega.{arith}
 use lib.Dec.{eqb, ltb}
 use lib.ListN.{length, get_or}
 use borrow.Author.Tests.{lt-ltb, le-ltb, ltb-false, eq-eqb, ne_eqb, eqb-true}
+use Rattle.std.specs.Prelude.{Ok, Err}
 use Rattle.base.proofs.SearchLaws.{least_only}
 use Rattle.codeword.specs.Nearest.{nearest}
-use Rattle.listing.specs.Listing.{listing_of}
+use Rattle.listing.specs.Listing.{listing_of, Listing}
 use Rattle.listing.specs.Words.{words_of}
 use Rattle.listing.specs.declared.Decoded.{Decoded}
-use Rattle.listing.specs.declared.Listing.{Listing}
-use Rattle.listing.specs.declared.Listing.TheVariants as listing
 use Rattle.listing.specs.Answers.{decoded_of}
 use Rattle.listing.proofs.Indexed.{formed}
 use Rattle.listing.proofs.Settled.{front}
@@ -149,10 +148,10 @@ unfolding judge_listing
 listing_readable s = go (listing_of s) refl
   where
     go : (l : Listing) → listing_of s ≡ l → judge_decoded l (words_of s) ≡ Sound → Readable (words_of s)
-    go (listing.WellFormed p b) e f =
-        let there = formed s p b e in
+    go (Ok shape) e f =
+        let there = formed s shape.preamble shape.batches e in
         record { few = omega (arith, there.count, there.limits.few); synced = batches_synced (words_of s) f }
-    go (listing.Declined why) e f = absurd (faulty_sound f)
+    go (Err why) e f = absurd (faulty_sound f)
 
 module _ (s : List ℕ) {d : Decoded} (e : d ≡ decoded_of s) where
   decoded_first : batches_first d.listing d.words ≡ words_of s

@@ -1,13 +1,11 @@
 -- What reading words or a listing answers, and what it leaves in the lent slice of bytes.
-use Rattle.std.specs.Prelude.{Bool, false, not, cond, ◌||◌, List, [], ℕ, ◌+◌, ◌/◌, ◌%◌, length, eqb, ltb}
+use Rattle.std.specs.Prelude.{Ok, Err, Bool, false, not, cond, ◌||◌, List, [], ℕ, ◌+◌, ◌/◌, ◌%◌, length, eqb, ltb}
 use Rattle.base.specs.Search.{least}
 use Rattle.codeword.specs.Nearest.{nearest}
-use Rattle.listing.specs.Listing.{listing_of}
+use Rattle.listing.specs.Listing.{listing_of, Listing}
 use Rattle.listing.specs.Words.{words_of}
 use Rattle.listing.specs.declared.Fault as listing-fault-type
 use Rattle.listing.specs.declared.Fault.TheVariants as listing-fault
-use Rattle.listing.specs.declared.Listing.{Listing}
-use Rattle.listing.specs.declared.Listing.TheVariants as listing
 use Rattle.reader.specs.Meaning.{is_sync}
 use Rattle.reader.specs.Reading.{Heard, sync_word, heard_stretch, heard_in}
 use Rattle.reader.specs.Lines.{lines_heard}
@@ -47,8 +45,8 @@ fault_of (listing-fault.TooMany line) = TooMany line
 
 -- a listing: 21 or 23 as its lines have it, then 22 of its batches, which have these words
 abbrev pub judge_decoded : Listing → List ℕ → Verdict
-judge_decoded (listing.Declined why) words = Faulty (fault_of why)
-judge_decoded (listing.WellFormed preamble batches) words = judge_batches words
+judge_decoded (Err why) words = Faulty (fault_of why)
+judge_decoded (Ok shape) words = judge_batches words
 
 -- any text as a listing
 unfoldable pub judge_listing : List ℕ → Verdict

@@ -3,10 +3,10 @@ use Rattle.std.specs.Prelude.{◌≡◌, false, List, ℕ, ◌*◌, ◌/◌, ◌
 use Rattle.codeword.specs.Answer.{changed}
 use Rattle.codeword.specs.Code.{sync}
 use Rattle.codeword.specs.Nearest.{distance}
+use Rattle.listing.specs.Listing.{Listing}
 use Rattle.listing.specs.Answers.{batches_of, decoded_of}
 use Rattle.listing.specs.Words.{words_of}
 use Rattle.listing.specs.declared.Decoded.{Decoded}
-use Rattle.listing.specs.declared.Listing.{Listing}
 use Rattle.reader.specs.Answers.{unsynced, first_unsynced, judge_batches, judge_words, judge_decoded, judge_listing}
 use Rattle.reader.specs.Reading.{sync_word}
 use Rattle.reader.specs.declared.Verdict.TheVariants.{Sound}

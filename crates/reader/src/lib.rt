@@ -582,30 +582,34 @@ pub fn judge_words(words: &[u32]) -> Verdict
 }
 
 // A listing's fault as this crate's.
-fn fault_of(why: listing::Fault) -> Fault
-    ensures { result ≡ fault_of why }
-{
-    match why {
-        listing::Fault::Malformed(line) => Fault::Malformed(line),
-        listing::Fault::TooMany(line) => Fault::TooMany(line),
+impl From<listing::Fault> for Fault {
+    ghost from_gives = { λ why fault. fault ≡ fault_of why };
+
+    fn from(why: listing::Fault) -> Fault {
+        match why {
+            listing::Fault::Malformed(line) => Fault::Malformed(line),
+            listing::Fault::TooMany(line) => Fault::TooMany(line),
+        }
     }
 }
 
 // Whether what `listing::decode` answers can be read: numbers 21 or 23, then 22 of its batches, which have these words.
-pub fn judge_decoded(l: listing::Listing, words: &[u32]) -> Verdict
+pub fn judge_decoded(l: Result<listing::Shape, listing::Fault>, words: &[u32]) -> Verdict
     ensures { result ≡ judge_decoded l words.now }
 {
     match l {
-        listing::Listing::WellFormed {
-            preamble: _,
-            batches: _,
-        } => judge_batches(words),
-        listing::Listing::Declined(why) => Verdict::Faulty(fault_of(why)),
+        Ok(_) => judge_batches(words),
+        Err(why) => Verdict::Faulty(Fault::from(why)),
     }
 }
 
 // Reads what `listing::decode` answers: of the words that it returns those of the batches stand first.
-fn read_decoded(engine: Engine, l: listing::Listing, words: &[u32], out: &mut [u8]) -> Reading
+fn read_decoded(
+    engine: Engine,
+    l: Result<listing::Shape, listing::Fault>,
+    words: &[u32],
+    out: &mut [u8],
+) -> Reading
     requires { Decoding l words.now }
     ensures value { result ≡ answered (judge_decoded l (batches_first l words.now)) (heard_in (batches_first l words.now)) (length out.old) }
     ensures out_after { out.new ≡ over out.old (lines_read result (batches_first l words.now)) }
