@@ -17,7 +17,7 @@ ghost use Rattle.follower.specs.Answers.{lines_into, follow_judged, follow_words
 ghost use Rattle.follower.specs.Progress.{InFrame, Ran, Buffers, Roomy, Printed, Kept};
 
 use codeword::Engine;
-use listing::Listing;
+use listing::Shape;
 use reader::{Fault, Meaning, Reading, Verdict};
 
 // How many lines there are of an identity, and how many bytes of them are written.
@@ -252,7 +252,7 @@ fn follow_judged(
 // Follows the identity through what `listing::decode` answers: of the words that it returns those of the batches stand first.
 fn follow_decoded(
     identity: u32,
-    l: Listing,
+    l: Result<Shape, listing::Fault>,
     words: &[u32],
     out: &mut [u8],
 ) -> Result<Followed, FollowError>

@@ -6,8 +6,8 @@ use native.Mathlib.Omega.{arith}
 use lib.ListN.{length, take}
 use lib.Seq.{length-take-le}
 use Rattle.base.specs.Lists.{over}
+use Rattle.listing.specs.Listing.{Listing}
 use Rattle.listing.specs.Answers.{batches_of}
-use Rattle.listing.specs.declared.Listing.{Listing}
 use Rattle.reader.specs.Readable.{batches_first}
 use Rattle.reader.specs.Answers.{judge_decoded}
 use Rattle.reader.specs.declared.Verdict.{Verdict}
