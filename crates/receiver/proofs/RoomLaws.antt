@@ -13,8 +13,8 @@ use Rattle.reader.proofs.Laws.{lines_append}
 use Rattle.receiver.specs.Stretches.{Stretch, is_batch, hunt_from, stretch_at, stretch_end, stretches_in, stretches_of, batches_found}
 use Rattle.receiver.specs.Answers.{heard_on, heard_all, heard_bits, totals_of, receive_bits, totals_received, number_of}
 use Rattle.receiver.specs.Enough.{Enough}
-use Rattle.receiver.specs.declared.Receiving.{Receiving}
-use Rattle.receiver.specs.declared.Receiving.TheVariants.{Received, Declined}
+use Rattle.std.specs.declared.result.Result.{Result}
+use Rattle.std.specs.declared.result.Result.TheVariants.{Ok, Err}
 use Rattle.receiver.specs.declared.Refusal.{Refusal}
 use Rattle.receiver.specs.declared.Refusal.TheVariants.{TooLong, TooMany, NoRoom}
 use Rattle.receiver.specs.declared.Totals.{Totals}
@@ -60,8 +60,8 @@ module _ (s : List ℕ) where
   size_most = lines_most (8 * length s) 0
 
   -- the cases of an answer
-  abbrev answer : Bool → Bool → Bool → Receiving
-  answer long many full = cond long (Declined TooLong) (cond many (Declined TooMany) (cond full (Declined NoRoom) (Received (totals_of n (heard_bits s)))))
+  abbrev answer : Bool → Bool → Bool → Result Totals Refusal
+  answer long many full = cond long (Err TooLong) (cond many (Err TooMany) (cond full (Err NoRoom) (Ok (totals_of n (heard_bits s)))))
 
   -- none of them is number 10
   not_full : (room : ℕ) → 48300 ≤ room → (long many full : Bool) → ltb 300 n ≡ many → ltb room size ≡ full → number_of (answer long many full) ≡ 10 → ⊥
@@ -79,7 +79,7 @@ enough s room h = not_full s room h (ltb 65536 (length s)) (ltb 300 (n s)) (ltb 
 
 module _ (s : List ℕ) where
   -- number 28, whatever the room
-  pub too_long : (room : ℕ) → 65536 < length s → Declined TooLong ≡ receive_bits s room
+  pub too_long : (room : ℕ) → 65536 < length s → Err TooLong ≡ receive_bits s room
   unfolding receive_bits
   too_long room h = rw (lt-ltb 65536 (length s) h)
 
@@ -89,45 +89,46 @@ module _ (s : List ℕ) where
     short : length s ≤ 65536
     few : n s ≤ 300
 
-  received_by : {t : Totals} (long many full : Bool) → ltb 65536 (length s) ≡ long → ltb 300 (n s) ≡ many → Received t ≡ answer s long many full → Known t
+  received_by : {t : Totals} (long many full : Bool) → ltb 65536 (length s) ≡ long → ltb 300 (n s) ≡ many → Ok t ≡ answer s long many full → Known t
   received_by true many full l m e = let z : ◌≡◌ {A = ℕ} 0 1 = cc in absurd (omega arith)
   received_by false true full l m e = let z : ◌≡◌ {A = ℕ} 0 1 = cc in absurd (omega arith)
   received_by false false true l m e = let z : ◌≡◌ {A = ℕ} 0 1 = cc in absurd (omega arith)
   received_by false false false l m e = record { report = ap totals_received e; short = ltb-false 65536 (length s) l; few = ltb-false 300 (n s) m }
 
-  received : (room : ℕ) {t : Totals} → Received t ≡ receive_bits s room → Known t
+  received : (room : ℕ) {t : Totals} → Ok t ≡ receive_bits s room → Known t
   unfolding receive_bits
   received room e = received_by (ltb 65536 (length s)) (ltb 300 (n s)) (ltb room (size s)) refl refl e
 
   -- the report has the length of the lines
-  pub bytes_received : (room : ℕ) {t : Totals} → Received t ≡ receive_bits s room → t.bytes ≡ size s
+  pub bytes_received : (room : ℕ) {t : Totals} → Ok t ≡ receive_bits s room → t.bytes ≡ size s
   bytes_received room e = ap (λ (t : Totals). t.bytes) (received room e).report
 
   -- other room: the lines fit, or they are longer
-  module _ (wide : ℕ) {t : Totals} (e : Received t ≡ receive_bits s wide) (room : ℕ) where
-    pub still_received : t.bytes ≤ room → Received t ≡ receive_bits s room
+  module _ (wide : ℕ) {t : Totals} (e : Ok t ≡ receive_bits s wide) (room : ℕ) where
+    pub still_received : t.bytes ≤ room → Ok t ≡ receive_bits s room
     unfolding receive_bits
     still_received h =
         let k = received wide e in
-        rw (le-ltb 65536 (length s) k.short, le-ltb 300 (n s) k.few, le-ltb room (size s) (omega (arith, bytes_received wide e))) (ap Received k.report)
+        rw (le-ltb 65536 (length s) k.short, le-ltb 300 (n s) k.few, le-ltb room (size s) (omega (arith, bytes_received wide e))) (ap Ok k.report)
 
-    pub no_room : room < t.bytes → Declined NoRoom ≡ receive_bits s room
+    pub no_room : room < t.bytes → Err NoRoom ≡ receive_bits s room
     unfolding receive_bits
     no_room h =
         let k = received wide e in
         rw (le-ltb 65536 (length s) k.short, le-ltb 300 (n s) k.few, lt-ltb room (size s) (omega (arith, bytes_received wide e)))
 
   -- what is declined into 48,300 bytes, and is not too long, has too many batches
-  many_by : {why : Refusal} (many full : Bool) → (number_of (answer s false many full) ≡ 10 → ⊥) → Declined why ≡ answer s false many full → ltb 300 (n s) ≡ many → 300 < n s
+  many_by : {why : Refusal} (many full : Bool) → (number_of (answer s false many full) ≡ 10 → ⊥) → Err why ≡ answer s false many full → ltb 300 (n s) ≡ many → 300 < n s
   many_by true full h e m = ltb-true 300 (n s) m
   many_by false true h e m = absurd (h refl)
   many_by false false h e m = let z : ◌≡◌ {A = ℕ} 0 1 = cc in absurd (omega arith)
 
-  pub still_many : (wide room : ℕ) → 48300 ≤ wide → length s ≤ 65536 → {why : Refusal} → Declined why ≡ receive_bits s wide → Declined TooMany ≡ receive_bits s room
+  pub still_many : (wide room : ℕ) → 48300 ≤ wide → length s ≤ 65536 → {why : Refusal} → Err why ≡ receive_bits s wide → Err why ≡ receive_bits s room
   unfolding receive_bits
   still_many wide room h short e =
       let l = le-ltb 65536 (length s) short in
       let many : 300 < n s =
       many_by (ltb 300 (n s)) (ltb wide (size s)) (not_full s wide h false (ltb 300 (n s)) (ltb wide (size s)) refl refl)
       (e ∙ ap (λ (b : Bool). answer s b (ltb 300 (n s)) (ltb wide (size s))) l) refl in
-      rw (l, lt-ltb 300 (n s) many)
+      let same : receive_bits s wide ≡ receive_bits s room = rw (l, lt-ltb 300 (n s) many) in
+      e ∙ same

@@ -17,7 +17,7 @@ use Rattle.receiver.specs.Bits.{bit_count}
 use Rattle.receiver.specs.Stretches.{Stretch, hunt_from, batches_from, stretch_at, stretch_end, stretches_of, batches_found}
 use Rattle.receiver.specs.Answers.{heard_on, nothing, then_heard, heard_all, heard_bits, totals_of, receive_bits}
 use Rattle.receiver.specs.Progress.{stretches_from, Ahead, Most, Addable, added}
-use Rattle.receiver.specs.declared.Receiving.TheVariants.{Received, Declined}
+use Rattle.std.specs.declared.result.Result.TheVariants.{Ok, Err}
 use Rattle.receiver.specs.declared.Refusal.TheVariants.{TooMany}
 use Rattle.receiver.specs.declared.Totals.{Totals}
 use Rattle.receiver.proofs.AddLaws.{then_nothing, nothing_then, then_assoc, added_is, most_none, most_added, most_heard}
@@ -81,12 +81,12 @@ module _ (s old : List ℕ) where
       unfolding batches_found
       all_counted = omega (arith, ap batches_found none_left, x.count)
 
-      pub so_far_end : (room : ℕ) → length s ≤ 65536 → 48300 ≤ room → Received t ≡ receive_bits s room
+      pub so_far_end : (room : ℕ) → length s ≤ 65536 → 48300 ≤ room → Ok t ≡ receive_bits s room
       unfolding receive_bits
       so_far_end room short wide =
           let fits : length (lines_heard (heard_bits s).pages) ≤ room = omega (arith, ap (λ (h : Heard). length (lines_heard h.pages)) all_heard, size, x.most.bytes, x.few) in
           let report : t ≡ totals_of (batches_found (stretches_of s)) (heard_bits s) = x.report ∙ ap₂ totals_of all_counted all_heard in
-          ap Received report
+          ap Ok report
           ∙ rw (le-ltb 65536 (length s) short, le-ltb 300 (batches_found (stretches_of s)) (omega (arith, all_counted, x.few)), le-ltb room (length (lines_heard (heard_bits s).pages)) fits)
 
       pub so_far_lines : take t.bytes lines ≡ lines_heard (heard_bits s).pages
@@ -164,7 +164,7 @@ module _ (s old : List ℕ) where
       ⊎_elim (λ (l : 1 ≤ b). omega (arith, counted p t x q b refl refl l)) (λ (l : b < 1). omega (arith, x.count)) (le_or_lt 1 b)
 
 -- a 301st batch is found
-pub too_many : (s : List ℕ) (room : ℕ) → length s ≤ 65536 → 300 < batches_found (stretches_of s) → Declined TooMany ≡ receive_bits s room
+pub too_many : (s : List ℕ) (room : ℕ) → length s ≤ 65536 → 300 < batches_found (stretches_of s) → Err TooMany ≡ receive_bits s room
 unfolding receive_bits
 too_many s room short many = rw (le-ltb 65536 (length s) short, lt-ltb 300 (batches_found (stretches_of s)) many)
 

@@ -1,11 +1,10 @@
 -- What the receiver hears and answers, and what it leaves in the lent slice of bytes (document 02, R-10).
-use Rattle.std.specs.Prelude.{Bool, cond, List, [], ◌∷◌, ◌++◌, ℕ, ◌+◌, ltb, leb, length}
+use Rattle.std.specs.Prelude.{Bool, cond, List, [], ◌∷◌, ◌++◌, ℕ, ◌+◌, ltb, leb, length, Result, Ok, Err}
 use Rattle.reader.specs.Reading.{Heard, heard_stretch}
 use Rattle.reader.specs.Lines.{lines_heard}
 use Rattle.receiver.specs.Bits.{bit_count}
 use Rattle.receiver.specs.Stretches.{Stretch, stretch_end, stretches_of, batches_found, words_on}
-use Rattle.receiver.specs.declared.Receiving.{Receiving}
-use Rattle.receiver.specs.declared.Receiving.TheVariants.{Received, Declined}
+use Rattle.receiver.specs.declared.Refusal.{Refusal}
 use Rattle.receiver.specs.declared.Refusal.TheVariants.{TooLong, TooMany, NoRoom}
 use Rattle.receiver.specs.declared.Totals.{Totals}
 
@@ -56,33 +55,33 @@ totals_of n h = record {
 }
 
 -- into room for so many bytes: number 10 where the lines are longer
-abbrev pub reported : ℕ → Heard → ℕ → Receiving
-reported n h room = cond (ltb room (length (lines_heard h.pages))) (Declined NoRoom) (Received (totals_of n h))
+abbrev pub reported : ℕ → Heard → ℕ → Result Totals Refusal
+reported n h room = cond (ltb room (length (lines_heard h.pages))) (Err NoRoom) (Ok (totals_of n h))
 
 -- receiving a recording: over 65,536 bytes are number 28, over 300 batches number 23; then 10
-unfoldable pub receive_bits : List ℕ → ℕ → Receiving
+unfoldable pub receive_bits : List ℕ → ℕ → Result Totals Refusal
 receive_bits s room =
-    cond (ltb 65536 (length s)) (Declined TooLong)
-    (cond (ltb 300 (batches_found (stretches_of s))) (Declined TooMany)
+    cond (ltb 65536 (length s)) (Err TooLong)
+    (cond (ltb 300 (batches_found (stretches_of s))) (Err TooMany)
     (reported (batches_found (stretches_of s)) (heard_bits s) room))
 
 -- what is written over the front of the bytes: the lines of all pages, or nothing where the recording is declined
-abbrev pub lines_received : Receiving → List ℕ → List ℕ
-lines_received (Received t) s = lines_heard (heard_bits s).pages
-lines_received (Declined why) s = []
+abbrev pub lines_received : Result Totals Refusal → List ℕ → List ℕ
+lines_received (Ok t) s = lines_heard (heard_bits s).pages
+lines_received (Err why) s = []
 
 -- the report of an answer: all zero where the recording is declined
-abbrev pub totals_received : Receiving → Totals
-totals_received (Received t) = t
-totals_received (Declined why) = totals_of 0 nothing
+abbrev pub totals_received : Result Totals Refusal → Totals
+totals_received (Ok t) = t
+totals_received (Err why) = totals_of 0 nothing
 
 -- the number of an answer, 0 where nothing is declined
-abbrev pub number_of : Receiving → ℕ
-number_of (Received t) = 0
-number_of (Declined TooLong) = 28
-number_of (Declined TooMany) = 23
-number_of (Declined NoRoom) = 10
+abbrev pub number_of : Result Totals Refusal → ℕ
+number_of (Ok t) = 0
+number_of (Err TooLong) = 28
+number_of (Err TooMany) = 23
+number_of (Err NoRoom) = 10
 
 -- its place
-abbrev pub place_of : Receiving → ℕ
+abbrev pub place_of : Result Totals Refusal → ℕ
 place_of r = 0

@@ -65,13 +65,6 @@ const NOTHING: Totals = Totals {
     bytes: 0,
 };
 
-// What receiving answers.
-#[derive(Clone, Copy)]
-pub enum Receiving {
-    Received(Totals),
-    Declined(Refusal),
-}
-
 // The bit at a position.
 fn bit(bits: &[u8], p: usize) -> u32
     requires { p < bit_count bits.now }
@@ -179,7 +172,7 @@ fn read_stretch(bits: &[u8], p: usize, b: usize, words: &mut [u32], out: &mut [u
 // Receives a recording: the lines of its pages go over the front of the lent lines, for which there is room. The words are room for
 // those of a stretch, which is lent once, since to clear it would take longer than to read a short one.
 #[tactic(auto, using(crate::proofs::SoFar::too_many, crate::proofs::SoFar::none_written))]
-fn receive_all(bits: &[u8], words: &mut [u32], lines: &mut [u8]) -> Receiving
+fn receive_all(bits: &[u8], words: &mut [u32], lines: &mut [u8]) -> Result<Totals, Refusal>
     requires { (length bits.now ≤ 65536) × (5100 ≤ length words.old) × (48300 ≤ length lines.old) }
     ensures value { result ≡ receive_bits bits.now (length lines.old) }
     ensures lines_after { take (totals_received result).bytes lines.new ≡ lines_received result bits.now }
@@ -190,10 +183,10 @@ fn receive_all(bits: &[u8], words: &mut [u32], lines: &mut [u8]) -> Receiving
         let q = hunt(bits, p);
         let b = count_batches(bits, q);
         if b == 0 {
-            return Receiving::Received(t);
+            return Ok(t);
         }
         if 300 < t.batches as usize + b {
-            return Receiving::Declined(Refusal::TooMany);
+            return Err(Refusal::TooMany);
         }
         let at = t.bytes;
         let more = read_stretch(bits, q, b, words, &mut lines[at..]);
@@ -205,47 +198,40 @@ fn receive_all(bits: &[u8], words: &mut [u32], lines: &mut [u8]) -> Receiving
 // Receives a recording's bits, eight to a byte, the first on top: the lines of the pages go to the front of the bytes, and what stands
 // behind them keeps its value.
 #[tactic(auto, using(crate::proofs::RoomLaws::too_long))]
-pub fn receive(bits: &[u8], out: &mut [u8]) -> Receiving
+pub fn receive(bits: &[u8], out: &mut [u8]) -> Result<Totals, Refusal>
     ensures value { result ≡ receive_bits bits.now (length out.old) }
     ensures out_after { out.new ≡ over out.old (lines_received result bits.now) }
 {
     if 65536 < bits.len() {
-        return Receiving::Declined(Refusal::TooLong);
+        return Err(Refusal::TooLong);
     }
     // Room for the words and the lines of 300 batches: ten bytes a slot, and one more for each page that a failed test cuts short.
     let mut words = [0u32; 5100];
     let mut lines = [0u8; 48300];
-    let Receiving::Received(t) = receive_all(bits, &mut words, &mut lines) else {
-        return Receiving::Declined(Refusal::TooMany);
-    };
+    let t = receive_all(bits, &mut words, &mut lines)?;
     let n = t.bytes;
     if out.len() < n {
-        return Receiving::Declined(Refusal::NoRoom);
+        return Err(Refusal::NoRoom);
     }
     out[..n].copy_from_slice(&lines[..n]);
-    Receiving::Received(t)
+    Ok(t)
 }
 
 // The number of an answer; 0 where nothing is declined. Its place is always 0.
-pub fn number(r: Receiving) -> u32
+pub fn number(r: Result<Totals, Refusal>) -> u32
     ensures { result ≡ number_of r }
 {
-    match r {
-        Receiving::Received(_) => 0,
-        Receiving::Declined(why) => match why {
-            Refusal::TooLong => 28,
-            Refusal::TooMany => 23,
-            Refusal::NoRoom => 10,
-        },
+    let Err(why) = r else { return 0 };
+    match why {
+        Refusal::TooLong => 28,
+        Refusal::TooMany => 23,
+        Refusal::NoRoom => 10,
     }
 }
 
 // The report of an answer: all zero where the recording is declined.
-pub fn report(r: Receiving) -> Totals
+pub fn report(r: Result<Totals, Refusal>) -> Totals
     ensures { result ≡ totals_received r }
 {
-    match r {
-        Receiving::Received(t) => t,
-        Receiving::Declined(_) => NOTHING,
-    }
+    r.unwrap_or(NOTHING)
 }
