@@ -32,17 +32,14 @@ use Rattle.reader.proofs.RoomLaws.{bytes_read_lem}
 use Rattle.follower.specs.Pages.{pages_for}
 use Rattle.follower.specs.Answers as following
 use Rattle.follower.specs.Answers.{follow_listing, lines_of}
-use Rattle.follower.specs.declared.Following.{Following}
-use Rattle.follower.specs.declared.Following.TheVariants.{Followed}
-use Rattle.follower.specs.declared.Following.TheVariants as following-variants
-use Rattle.follower.specs.declared.Refusal as follower
-use Rattle.follower.specs.declared.Refusal.TheVariants.{IdentityRange, IdentityReserved, Unread, NoRoom as NoLines}
+use Rattle.std.specs.declared.result.Result.{Result}
+use Rattle.std.specs.declared.result.Result.TheVariants as result
+use Rattle.follower.specs.declared.Followed.{Followed}
+use Rattle.follower.specs.declared.FollowError.{FollowError}
+use Rattle.follower.specs.declared.FollowError.TheVariants.{IdentityRange, IdentityReserved, Unread, NoRoom as NoLines}
 use Rattle.follower.proofs.RoomLaws.{bytes_followed_lem}
 use Rattle.receiver.specs.Answers as receiving
 use Rattle.receiver.specs.Answers.{heard_bits, receive_bits, lines_received}
-use Rattle.receiver.specs.declared.Receiving.{Receiving}
-use Rattle.receiver.specs.declared.Receiving.TheVariants.{Received}
-use Rattle.receiver.specs.declared.Receiving.TheVariants as receiving-variants
 use Rattle.receiver.specs.declared.Refusal as receiver
 use Rattle.receiver.specs.declared.Refusal.TheVariants.{TooLong, TooMany as TooManyBatches, NoRoom as NoReceivedLines}
 use Rattle.receiver.specs.declared.Totals.{Totals}
@@ -140,7 +137,7 @@ module _ (i : ℕ) (s old : List ℕ) {n : ℕ} {out : List ℕ} where
   follow_long h p = same old (refusal_line 24 0 0) (follow_prints i s) out n (rw h) p
 
   -- the lines, or the line of the refusal
-  follow_is : (r : Following) → is_long s ≡ false → length old ≡ 48000 → r ≡ follow_listing i s (length old)
+  follow_is : (r : Result Followed FollowError) → is_long s ≡ false → length old ≡ 48000 → r ≡ follow_listing i s (length old)
       → Printed old (answer_text (following.number_of r) (following.place_of r) 0 (lines_of r (pages_for i (words_of s)))) n out → Printed old (follow_prints i s) n out
   unfolding follow_prints
   follow_is r h room e p =
@@ -148,19 +145,19 @@ module _ (i : ℕ) (s old : List ℕ) {n : ℕ} {out : List ℕ} where
 
 -- the cases of the answer
 module _ (i : ℕ) (s old : List ℕ) (h : is_long s ≡ false) {out : List ℕ} where
-  pub follow_whole : (lines n : ℕ) → length old ≡ 48000 → Followed lines n ≡ follow_listing i s (length old)
-      → out ≡ over old (lines_heard (pages_for i (words_of s))) → Printed old (follow_prints i s) n out
-  follow_whole lines n room e o = follow_is i s old (Followed lines n) h room e (bytes_followed_lem i s (length old) e, o)
+  pub follow_whole : (f : Followed) → length old ≡ 48000 → result.Ok f ≡ follow_listing i s (length old)
+      → out ≡ over old (lines_heard (pages_for i (words_of s))) → Printed old (follow_prints i s) f.bytes out
+  follow_whole f room e o = follow_is i s old (result.Ok f) h room e (bytes_followed_lem i s (length old) e, o)
 
-  pub follow_declined : (n : ℕ) (why : follower.Refusal) → length old ≡ 48000 → following-variants.Declined why ≡ follow_listing i s (length old)
-      → Printed old (refusal_line (following.number_of (following-variants.Declined why)) (following.place_of (following-variants.Declined why)) 0) n out
+  pub follow_declined : (n : ℕ) (why : FollowError) → length old ≡ 48000 → result.Err why ≡ follow_listing i s (length old)
+      → Printed old (refusal_line (following.number_of (result.Err why)) (following.place_of (result.Err why)) 0) n out
       → Printed old (follow_prints i s) n out
-  follow_declined n IdentityRange room e p = follow_is i s old (following-variants.Declined IdentityRange) h room e p
-  follow_declined n IdentityReserved room e p = follow_is i s old (following-variants.Declined IdentityReserved) h room e p
-  follow_declined n (Unread (Malformed line)) room e p = follow_is i s old (following-variants.Declined (Unread (Malformed line))) h room e p
-  follow_declined n (Unread (TooMany line)) room e p = follow_is i s old (following-variants.Declined (Unread (TooMany line))) h room e p
-  follow_declined n (Unread (Unsynced batch)) room e p = follow_is i s old (following-variants.Declined (Unread (Unsynced batch))) h room e p
-  follow_declined n NoLines room e p = follow_is i s old (following-variants.Declined NoLines) h room e p
+  follow_declined n IdentityRange room e p = follow_is i s old (result.Err IdentityRange) h room e p
+  follow_declined n IdentityReserved room e p = follow_is i s old (result.Err IdentityReserved) h room e p
+  follow_declined n (Unread (Malformed line)) room e p = follow_is i s old (result.Err (Unread (Malformed line))) h room e p
+  follow_declined n (Unread (TooMany line)) room e p = follow_is i s old (result.Err (Unread (TooMany line))) h room e p
+  follow_declined n (Unread (Unsynced batch)) room e p = follow_is i s old (result.Err (Unread (Unsynced batch))) h room e p
+  follow_declined n NoLines room e p = follow_is i s old (result.Err NoLines) h room e p
 
 -- ---- the receiving program
 
@@ -171,7 +168,7 @@ module _ (s old : List ℕ) {n : ℕ} {out : List ℕ} where
   receive_long h p = same old (refusal_line 24 0 0) (receive_prints s) out n (rw h) p
 
   -- the lines, or the line of the refusal
-  receive_is : (r : Receiving) → is_long s ≡ false → length old ≡ 48300 → r ≡ receive_bits s (length old)
+  receive_is : (r : Result Totals receiver.Refusal) → is_long s ≡ false → length old ≡ 48300 → r ≡ receive_bits s (length old)
       → Printed old (answer_text (receiving.number_of r) (receiving.place_of r) 0 (lines_received r s)) n out → Printed old (receive_prints s) n out
   unfolding receive_prints
   receive_is r h room e p =
@@ -179,15 +176,15 @@ module _ (s old : List ℕ) {n : ℕ} {out : List ℕ} where
 
 -- the cases of the answer
 module _ (s old : List ℕ) (h : is_long s ≡ false) {out : List ℕ} where
-  pub receive_whole : (t : Totals) → length old ≡ 48300 → Received t ≡ receive_bits s (length old)
+  pub receive_whole : (t : Totals) → length old ≡ 48300 → result.Ok t ≡ receive_bits s (length old)
       → out ≡ over old (lines_heard (heard_bits s).pages) → Printed old (receive_prints s) t.bytes out
-  receive_whole t room e o = receive_is s old (Received t) h room e (bytes_received s (length old) e, o)
+  receive_whole t room e o = receive_is s old (result.Ok t) h room e (bytes_received s (length old) e, o)
 
-  pub receive_declined : (n : ℕ) (why : receiver.Refusal) → length old ≡ 48300 → receiving-variants.Declined why ≡ receive_bits s (length old)
-      → Printed old (refusal_line (receiving.number_of (receiving-variants.Declined why)) 0 0) n out → Printed old (receive_prints s) n out
-  receive_declined n TooLong room e p = receive_is s old (receiving-variants.Declined TooLong) h room e p
-  receive_declined n TooManyBatches room e p = receive_is s old (receiving-variants.Declined TooManyBatches) h room e p
-  receive_declined n NoReceivedLines room e p = receive_is s old (receiving-variants.Declined NoReceivedLines) h room e p
+  pub receive_declined : (n : ℕ) (why : receiver.Refusal) → length old ≡ 48300 → result.Err why ≡ receive_bits s (length old)
+      → Printed old (refusal_line (receiving.number_of (result.Err why)) 0 0) n out → Printed old (receive_prints s) n out
+  receive_declined n TooLong room e p = receive_is s old (result.Err TooLong) h room e p
+  receive_declined n TooManyBatches room e p = receive_is s old (result.Err TooManyBatches) h room e p
+  receive_declined n NoReceivedLines room e p = receive_is s old (result.Err NoReceivedLines) h room e p
 
 -- ---- the coverage program
 

@@ -15,11 +15,9 @@ ghost use Rattle.program.specs.Prints.{is_long, refusal_line, send_prints, read_
 
 use codeword::Engine;
 use coverage::{Adding, Coverage};
-use follower::Following;
 use job_listing::Listed;
 use printed::Printed;
 use reader::Reading;
-use receiver::Receiving;
 use std::env::FillError;
 use std::io::{Input, Read};
 use std::rt::{Env, Files};
@@ -216,8 +214,8 @@ pub fn follow(identity: u32, input: &[u8], out: &mut [u8; 48000]) -> usize
     let number = follower::number(answer);
     let place = follower::place(answer);
     match answer {
-        Following::Followed { lines: _, bytes } => bytes,
-        Following::Declined(_) => write_refusal(number, place, 0, out),
+        Ok(followed) => followed.bytes,
+        Err(_) => write_refusal(number, place, 0, out),
     }
 }
 
@@ -233,8 +231,8 @@ pub fn receive(input: &[u8], out: &mut [u8; 48300]) -> usize
     let answer = receiver::receive(input, out);
     let number = receiver::number(answer);
     match answer {
-        Receiving::Received(t) => t.bytes,
-        Receiving::Declined(_) => write_refusal(number, 0, 0, out),
+        Ok(totals) => totals.bytes,
+        Err(_) => write_refusal(number, 0, 0, out),
     }
 }
 
