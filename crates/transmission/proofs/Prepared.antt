@@ -7,7 +7,7 @@ use native.Mathlib.Omega.{arith}
 use lib.ListN.{length, get_or, take, drop, replicate, length-map, length-replicate, get_or-append}
 use lib.Seq.{take_at}
 use borrow.Author.Tests.{lt-ltb, le-ltb}
-use Rattle.std.specs.Prelude.{Ok}
+use Rattle.std.specs.Prelude.{Ok, Err}
 use Rattle.base.specs.Lists.{over}
 use Rattle.base.proofs.ListLaws.{over_length}
 use Rattle.job.specs.Submission.{Submission}
@@ -19,9 +19,9 @@ use Rattle.placement.proofs.Sendable.{of_sendable}
 use Rattle.placement.proofs.Placing.{batches_in_lem, slots_in_lem}
 use Rattle.transmission.specs.Sending.{Sending, sendings_of, frames_of, counts_of, placement_of}
 use Rattle.transmission.specs.Transmission.{codewords_of, transmission_of}
-use Rattle.transmission.specs.Report.{sent_into}
+use Rattle.transmission.specs.Report.{sent, sent_into}
 use Rattle.transmission.specs.Writing.{Planned}
-use Rattle.transmission.specs.declared.Report.TheVariants.{Sent, NoRoom}
+use Rattle.transmission.specs.declared.SendError.TheVariants.{NoRoom}
 use Rattle.transmission.proofs.Sendings.{pages_are, sendings_count, sendable, accepted_sendings, sendings_limits}
 use Rattle.transmission.proofs.TransmissionLaws.{transmission_length}
 
@@ -70,13 +70,13 @@ module _ {s : Submission} {n : ℕ} {groups places : List ℕ} {b : ℕ} (r : Pr
   plan e = record { counted = r.counted; placed = r.placed; exact = e ∙ ap (λ (x : ℕ). 18 + 17 * x) r.total }
 
   -- too little room for the words, or for the slots, or enough for both
-  pub short_words : (w k : ℕ) → w < 18 + 17 * b → NoRoom ≡ sent_into (sendings_of s) w k
+  pub short_words : (w k : ℕ) → w < 18 + 17 * b → Err NoRoom ≡ sent_into (sendings_of s) w k
   short_words w k h = rw (← r.total, lt-ltb w (18 + 17 * b) h)
 
-  pub short_slots : (w k : ℕ) → 18 + 17 * b ≤ w → k < n → NoRoom ≡ sent_into (sendings_of s) w k
+  pub short_slots : (w k : ℕ) → 18 + 17 * b ≤ w → k < n → Err NoRoom ≡ sent_into (sendings_of s) w k
   short_slots w k h l = rw (← r.total, le-ltb w (18 + 17 * b) h, sendings_count s n r.accepted, lt-ltb k n l)
 
-  pub enough : (w k : ℕ) → 18 + 17 * b ≤ w → n ≤ k → Sent b (18 + 17 * b) ≡ sent_into (sendings_of s) w k
+  pub enough : (w k : ℕ) → 18 + 17 * b ≤ w → n ≤ k → sent b (18 + 17 * b) ≡ sent_into (sendings_of s) w k
   enough w k h l = rw (← r.total, le-ltb w (18 + 17 * b) h, sendings_count s n r.accepted, le-ltb k n l)
 
   -- the words written, with what stands behind them

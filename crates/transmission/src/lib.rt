@@ -10,64 +10,69 @@ ghost use Rattle.transmission.specs.Sending.{sending_from, sending_of, sendings_
 ghost use Rattle.transmission.specs.Transmission.{transmission_of};
 ghost use Rattle.transmission.specs.Transmitted.{slot_index};
 ghost use Rattle.transmission.specs.Report.{sent_into, report_of, words_sent, slots_sent, number_of, place_of, position_of};
+ghost use Rattle.transmission.specs.declared.SendError.TheVariants.{Job};
 ghost use Rattle.transmission.specs.Writing.{Planned, blank_at, with_sending};
 
 use codeword::Codeword;
-use job::{Page, Pages, Refusal, Refused};
+use job::{Page, Pages, Refused};
 
 // A word of the preamble.
 const PREAMBLE: u32 = 0xAAAA_AAAA;
 
-// What sending a job answers.
-#[derive(Clone, Copy)]
-pub enum Report {
-    // The number of batches, and of words: 18 plus 17 a batch.
-    Sent { batches: u32, words: u32 },
+// A job that is sent: the number of batches, and of words: 18 plus 17 a batch.
+#[derive(Clone, Copy, PartialEq, Eq)]
+pub struct Sent {
+    pub batches: u32,
+    pub words: u32,
+}
+
+// Why a job is not sent.
+#[derive(Clone, Copy, PartialEq, Eq)]
+pub enum SendError {
     // The job's own refusal, with its place.
-    Declined { why: Refusal, place: usize },
+    Job(Refused),
     // A lent slice is shorter than the answer: number 10.
     NoRoom,
 }
 
+impl From<Refused> for SendError {
+    ghost from_gives = { λ r e. e ≡ Job r };
+
+    fn from(refusal: Refused) -> SendError {
+        SendError::Job(refusal)
+    }
+}
+
 // The number of a report in the table; 0 where the job is sent.
-pub fn number(r: Report) -> u32
+pub fn number(r: Result<Sent, SendError>) -> u32
     ensures { result ≡ number_of r }
 {
     match r {
-        Report::Sent {
-            batches: _,
-            words: _,
-        } => 0,
-        Report::Declined { why, place } => job::number(Err(Refused { why, place })),
-        Report::NoRoom => 10,
+        Ok(_) => 0,
+        Err(SendError::Job(refusal)) => job::number(Err(refusal)),
+        Err(SendError::NoRoom) => 10,
     }
 }
 
 // The place of a report; 0 where the job is sent.
-pub fn place(r: Report) -> usize
+pub fn place(r: Result<Sent, SendError>) -> usize
     ensures { result ≡ place_of r }
 {
     match r {
-        Report::Sent {
-            batches: _,
-            words: _,
-        } => 0,
-        Report::Declined { why: _, place } => place,
-        Report::NoRoom => 0,
+        Ok(_) => 0,
+        Err(SendError::Job(refusal)) => refusal.place,
+        Err(SendError::NoRoom) => 0,
     }
 }
 
 // The second place of a report; 0 where the job is sent.
-pub fn position(r: Report) -> usize
+pub fn position(r: Result<Sent, SendError>) -> usize
     ensures { result ≡ position_of r }
 {
     match r {
-        Report::Sent {
-            batches: _,
-            words: _,
-        } => 0,
-        Report::Declined { why, place } => job::position(Err(Refused { why, place })),
-        Report::NoRoom => 0,
+        Ok(_) => 0,
+        Err(SendError::Job(refusal)) => job::position(Err(refusal)),
+        Err(SendError::NoRoom) => 0,
     }
 }
 
@@ -211,7 +216,7 @@ fn send_pages<'a>(
     n: usize,
     words: &mut [u32],
     slots: &mut [u32],
-) -> Report
+) -> Result<Sent, SendError>
     requires read_value { read ≡ reading_of (with_book job.now book.now) }
     requires book_value { job_of (with_book job.now book.now) ≡ Ok n }
     ensures value { result ≡ sent_into (sendings_of (with_book job.now book.now)) (length words.old) (length slots.old) }
@@ -233,10 +238,10 @@ fn send_pages<'a>(
     let room = count as usize;
     let short = words.len() < room;
     if short {
-        return Report::NoRoom;
+        return Err(SendError::NoRoom);
     }
     if slots.len() < n {
-        return Report::NoRoom;
+        return Err(SendError::NoRoom);
     }
     write_pages(
         job,
@@ -248,24 +253,26 @@ fn send_pages<'a>(
         &mut words[..room],
     );
     copy_front(&places[..n], slots);
-    Report::Sent {
+    Ok(Sent {
         batches: batches,
         words: count,
-    }
+    })
 }
 
 // Sends a job with its phrase book, which is empty where there is none: writes its transmission over the front of the words and each
 // page's address slot, in job order, over the front of the slots, and reports the number of batches and of words. A declined job writes
 // nothing.
-pub fn send<'a>(job: &'a [u8], book: &'a [u8], words: &mut [u32], slots: &mut [u32]) -> Report
+pub fn send<'a>(
+    job: &'a [u8],
+    book: &'a [u8],
+    words: &mut [u32],
+    slots: &mut [u32],
+) -> Result<Sent, SendError>
     ensures value { result ≡ report_of (with_book job.now book.now) (length words.old) (length slots.old) }
     ensures words_after { words.new ≡ over words.old (words_sent result (sendings_of (with_book job.now book.now))) }
     ensures slots_after { slots.new ≡ over slots.old (slots_sent result (sendings_of (with_book job.now book.now))) }
 {
     let read = job::read_job(job, book);
-    let answer = read.answer;
-    match answer {
-        Err(Refused { why, place }) => Report::Declined { why, place },
-        Ok(n) => send_pages(job, book, read, n, words, slots),
-    }
+    let n = read.answer?;
+    send_pages(job, book, read, n, words, slots)
 }
