@@ -3,13 +3,13 @@ use Prim.Native.Nat.{ℕ}
 use mathlib.Core.Path.{◌≡◌, refl, sym, ap, ◌∙◌}
 use mathlib.Core.List.{List}
 use lib.ListN.{replicate}
+use Rattle.job.specs.Refusal.{JobAnswer}
+use Rattle.std.specs.Prelude.{Ok, Err}
 use Rattle.base.specs.Lists.{over}
 use Rattle.base.proofs.ListLaws.{over_zeros}
 use Rattle.job.specs.Submission.{Submission}
 use Rattle.job.specs.Job.{job_of}
-use Rattle.job.specs.declared.Refusal.{Refusal}
-use Rattle.job.specs.declared.JobAnswer.{JobAnswer}
-use Rattle.job.specs.declared.JobAnswer.TheVariants.{Accepted, Refused}
+use Rattle.job.specs.declared.Refused.{Refused}
 use Rattle.transmission.specs.Sending.{Sending, sendings_of}
 use Rattle.sender.specs.declared.Cursor.{Cursor}
 use Rattle.sender.specs.declared.PageTable.{PageTable}
@@ -28,28 +28,28 @@ module _ (s : Submission) where
   opening_by a = record { answer = a; cursor = (state_by a xs).cursor; pages = (state_by a xs).pages; sent = (state_by a xs).sent }
 
   -- an accepted job: what is returned, and the message words
-  pub opens : (n : ℕ) → Accepted n ≡ job_of s → {c : Cursor} {p : PageTable} → c ≡ cursor_at 18 → p ≡ pages_from xs → opening (Accepted n) c p ≡ opening_of (started_of s)
+  pub opens : (n : ℕ) → Ok n ≡ job_of s → {c : Cursor} {p : PageTable} → c ≡ cursor_at 18 → p ≡ pages_from xs → opening (Ok n) c p ≡ opening_of (started_of s)
   unfolding started_of start_of
-  opens n e ec ep = (λ i. opening (Accepted n) (ec i) (ep i)) ∙ ap opening_by e
+  opens n e ec ep = (λ i. opening (Ok n) (ec i) (ep i)) ∙ ap opening_by e
 
-  pub lays : (n : ℕ) → Accepted n ≡ job_of s → (old : List ℕ) {words : List ℕ} → words ≡ over (replicate 4032 0) (words_of xs) → words ≡ words_by (job_of s) (started_of s).state.words old
+  pub lays : (n : ℕ) → Ok n ≡ job_of s → (old : List ℕ) {words : List ℕ} → words ≡ over (replicate 4032 0) (words_of xs) → words ≡ words_by (job_of s) (started_of s).state.words old
   unfolding started_of start_of
   lays n e old w = w ∙ over_zeros 4032 (words_of xs) ∙ ap (λ (a : JobAnswer). words_by a (state_by a xs).words old) e
 
   -- a refused one
-  pub refuses : (a : JobAnswer) (why : Refusal) (place : ℕ) → a ≡ Refused why place → a ≡ job_of s → {c : Cursor} {p : PageTable} → c ≡ cursor_at 0 → p ≡ no_pages → opening a c p ≡ opening_of (started_of s)
+  pub refuses : (a : JobAnswer) {r : Refused} → a ≡ Err r → a ≡ job_of s → {c : Cursor} {p : PageTable} → c ≡ cursor_at 0 → p ≡ no_pages → opening a c p ≡ opening_of (started_of s)
   unfolding started_of no_state
-  refuses a why place r e ec ep = (λ i. opening (r i) (ec i) (ep i)) ∙ ap opening_by (sym r ∙ e)
+  refuses a r e ec ep = (λ i. opening (r i) (ec i) (ep i)) ∙ ap opening_by (sym r ∙ e)
 
-  pub stays : (a : JobAnswer) (why : Refusal) (place : ℕ) → a ≡ Refused why place → a ≡ job_of s → (old : List ℕ) → old ≡ words_by (job_of s) (started_of s).state.words old
+  pub stays : (a : JobAnswer) {r : Refused} → a ≡ Err r → a ≡ job_of s → (old : List ℕ) → old ≡ words_by (job_of s) (started_of s).state.words old
   unfolding started_of
-  stays a why place r e old = ap (λ (b : JobAnswer). words_by b (state_by b xs).words old) (sym r ∙ e)
+  stays a r e old = ap (λ (b : JobAnswer). words_by b (state_by b xs).words old) (sym r ∙ e)
 
   -- message words that were zero are those of the state, either way
   over_none : (a : JobAnswer) → words_by a (state_by a xs).words (replicate 4032 0) ≡ (state_by a xs).words
   unfolding no_state
-  over_none (Accepted n) = refl
-  over_none (Refused why place) = refl
+  over_none (Ok n) = refl
+  over_none (Err r) = refl
 
   pub starts : {o : Opening} {words : List ℕ} → o ≡ opening_of (started_of s) → words ≡ words_by (job_of s) (started_of s).state.words (replicate 4032 0)
       → ◌≡◌ {A = Started} (record { answer = o.answer; state = record { cursor = o.cursor; pages = o.pages; sent = o.sent; words = words } }) (started_of s)

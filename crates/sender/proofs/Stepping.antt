@@ -7,14 +7,14 @@ use mathlib.Core.List.{List, [], ◌∷◌, ◌++◌, map}
 use native.Mathlib.Nat.{not-suc-le-zero, le_of_suc-le-suc, le_refl}
 use native.Mathlib.Omega.{arith}
 use lib.ListN.{length, get_or, take, replicate}
+use Rattle.job.specs.Refusal.{JobAnswer}
+use Rattle.std.specs.Prelude.{Ok}
 use Rattle.base.specs.Search.{least}
 use Rattle.base.specs.Lists.{tab, padded}
 use Rattle.base.proofs.ListLaws.{map-tab, tab-at}
 use Rattle.base.proofs.SearchLaws.{le_or_lt}
 use Rattle.job.specs.Submission.{Submission}
 use Rattle.job.specs.Job.{job_of}
-use Rattle.job.specs.declared.JobAnswer.{JobAnswer}
-use Rattle.job.specs.declared.JobAnswer.TheVariants.{Accepted}
 use Rattle.placement.specs.Placement.{all_out}
 use Rattle.transmission.specs.Sending.{Sending, sendings_of, placement_of, AllAllowed}
 use Rattle.transmission.specs.Transmission.{codewords_of, word_at, word_count, transmission, transmission_of}
@@ -60,7 +60,7 @@ some_list s (suc n) =
     (z.answer ∷ r.0, r.1, more s z.state r.1 z.answer r.0 (by_value z refl) r.2, ap suc r.3)
 
 -- a start answers the job, and where it accepts it, gives the state of its sendings
-pub start_is : (s : Submission) (a : JobAnswer) (t : Sender) → StartCall s a t → (a ≡ job_of s) × ((n : ℕ) → job_of s ≡ Accepted n → t ≡ start_of (sendings_of s))
+pub start_is : (s : Submission) (a : JobAnswer) (t : Sender) → StartCall s a t → (a ≡ job_of s) × ((n : ℕ) → job_of s ≡ Ok n → t ≡ start_of (sendings_of s))
 unfolding started_of
 start_is s a t (by_value r e) =
     (ap (λ (x : Started). x.answer) e, λ n ok. ap (λ (x : Started). x.state) e ∙ ap (λ (x : JobAnswer). state_by x (sendings_of s)) ok)
@@ -133,8 +133,8 @@ module _ (xs : List Sending) (a : AllAllowed xs) where
 
 pub job_stepping : JobStepping
 job_stepping s n t c =
-    let r = start_is s (Accepted n) t c in
-    let ok : job_of s ≡ Accepted n = sym r.0 in
+    let r = start_is s (Ok n) t c in
+    let ok : job_of s ≡ Ok n = sym r.0 in
     rw (r.1 n ok) (stepping (sendings_of s) (accepted_sendings s n ok))
 
 -- the state of a refused job is at rest

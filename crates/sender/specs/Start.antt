@@ -1,10 +1,9 @@
 -- What starting a job answers, and the state from which its steps go (document 01, "Placement").
-use Rattle.std.specs.Prelude.{ℕ, List, [], ◌∷◌, ◌++◌, map, length, take, replicate}
+use Rattle.job.specs.Refusal.{JobAnswer, refused}
+use Rattle.std.specs.Prelude.{ℕ, List, [], ◌∷◌, ◌++◌, map, length, take, replicate, Ok, Err}
 use Rattle.base.specs.Lists.{tab, padded}
 use Rattle.job.specs.Submission.{Submission}
 use Rattle.job.specs.Job.{job_of}
-use Rattle.job.specs.declared.JobAnswer.{JobAnswer}
-use Rattle.job.specs.declared.JobAnswer.TheVariants as job-answer
 use Rattle.transmission.specs.Sending.{Sending, sendings_of, frames_of, counts_of}
 use Rattle.transmission.specs.Transmission.{address_of, message_of}
 use Rattle.sender.specs.declared.Cursor.{Cursor}
@@ -64,8 +63,8 @@ no_state = state_from no_pages (replicate 48 0) (cursor_at 0) (replicate 4032 0)
 
 -- the state by a job's answer
 abbrev pub state_by : JobAnswer → List Sending → Sender
-state_by (job-answer.Accepted n) xs = start_of xs
-state_by (job-answer.Refused why place) xs = no_state
+state_by (Ok n) xs = start_of xs
+state_by (Err r) xs = no_state
 
 -- what starting a job answers: what reading it answers, and the state
 unfoldable pub started_of : Submission → Started
@@ -77,5 +76,5 @@ opening_of s = record { answer = s.answer; cursor = s.state.cursor; pages = s.st
 
 -- the message words that the caller keeps, by a job's answer: the job's own, or the old ones
 abbrev pub words_by : JobAnswer → List ℕ → List ℕ → List ℕ
-words_by (job-answer.Accepted n) new old = new
-words_by (job-answer.Refused why place) new old = old
+words_by (Ok n) new old = new
+words_by (Err r) new old = old

@@ -1,10 +1,9 @@
 -- Every list of steps, of whatever length, as calls (demand 3). `job_stepping` and `no_stepping` in proofs/Stepping.antt prove it.
-use Rattle.std.specs.Prelude.{ℕ, ◌≤◌, ◌<◌, ◌≡◌, List, [], ◌∷◌, ◌++◌, map, length, get_or, take, replicate}
+use Rattle.job.specs.Refusal.{JobAnswer, refused}
+use Rattle.std.specs.Prelude.{ℕ, ◌≤◌, ◌<◌, ◌≡◌, List, [], ◌∷◌, ◌++◌, map, length, get_or, take, replicate, Ok, Err}
 use Rattle.job.specs.Submission.{Submission}
 use Rattle.job.specs.Job.{job_of}
 use Rattle.job.specs.declared.Refusal.{Refusal}
-use Rattle.job.specs.declared.JobAnswer.{JobAnswer}
-use Rattle.job.specs.declared.JobAnswer.TheVariants as job-answer
 use Rattle.transmission.specs.Sending.{sendings_of}
 use Rattle.transmission.specs.Transmission.{transmission_of}
 use Rattle.sender.specs.declared.Sender.{Sender}
@@ -51,10 +50,10 @@ pub record Stepping (words : List ℕ) (s : Sender) : Type 0 where
 
 -- of every start that accepts its job
 abbrev pub JobStepping : Type 0
-JobStepping = (s : Submission) (n : ℕ) (t : Sender) → StartCall s (job-answer.Accepted n) t → Stepping (transmission_of (sendings_of s)) t
+JobStepping = (s : Submission) (n : ℕ) (t : Sender) → StartCall s (Ok n) t → Stepping (transmission_of (sendings_of s)) t
 
 -- of every refused job: each step from its state answers done and alters nothing
 abbrev pub NoStepping : Type 0
 NoStepping =
-    (s : Submission) (why : Refusal) (place : ℕ) → job_of s ≡ job-answer.Refused why place
+    (s : Submission) (why : Refusal) (place : ℕ) → job_of s ≡ refused why place
     → step_of (started_of s).state ≡ record { answer = Done; state = (started_of s).state }

@@ -16,7 +16,7 @@ ghost use Rattle.sender.specs.Plan.{Joined, table_of, said, unmarked, PlanOk};
 ghost use Rattle.sender.specs.Start.{words_of, pages_from, cursor_at, no_pages, opening_of, words_by, started_of};
 
 use codeword::Codeword;
-use job::JobAnswer;
+use job::Refused;
 
 // Where the transmission stands. A flag is set where it is not 0.
 #[repr(C)]
@@ -79,14 +79,14 @@ pub enum Answer {
 // A job's answer, and the state that it gives.
 #[derive(Clone, Copy)]
 pub struct Started {
-    pub answer: JobAnswer,
+    pub answer: Result<usize, Refused>,
     pub state: Sender,
 }
 
 // A job's answer, and the state that it gives, without the message words.
 #[derive(Clone, Copy)]
 pub struct Opening {
-    pub answer: JobAnswer,
+    pub answer: Result<usize, Refused>,
     pub cursor: Cursor,
     pub pages: PageTable,
     pub sent: [u8; 48],
@@ -513,7 +513,7 @@ fn lay_out<'a>(
     n: usize,
     words: &mut [u32],
 ) -> PageTable
-    requires read_value { (read ≡ reading_of (with_book job.now book.now)) × (job_of (with_book job.now book.now) ≡ JobAnswer.Accepted n) }
+    requires read_value { (read ≡ reading_of (with_book job.now book.now)) × (job_of (with_book job.now book.now) ≡ Ok n) }
     requires words_len { length words.old ≡ 4032 }
     ensures value { result ≡ pages_from (sendings_of (with_book job.now book.now)) }
     ensures words_after { words.new ≡ over words.old (words_of (sendings_of (with_book job.now book.now))) }
@@ -586,7 +586,7 @@ pub fn start_with<'a>(job: &'a [u8], book: &'a [u8], words: &mut [u32; 4032]) ->
     let answer = read.answer;
     let unsent = [0u8; 48];
     match answer {
-        JobAnswer::Accepted(n) => {
+        Ok(n) => {
             *words = [0u32; 4032];
             let pages = lay_out(job, book, read, n, words);
             Opening {
@@ -596,7 +596,7 @@ pub fn start_with<'a>(job: &'a [u8], book: &'a [u8], words: &mut [u32; 4032]) ->
                 sent: unsent,
             }
         }
-        JobAnswer::Refused { why: _, place: _ } => Opening {
+        Err(_) => Opening {
             answer: answer,
             cursor: cursor_at(0),
             pages: no_pages(),
