@@ -118,14 +118,7 @@ fn follow_page(
     let first = s + 1;
     let Message { end, cut } = follow_message(words, first, groups);
     let n = end - first;
-    let Some(bytes) = reader::print_heard(
-        identity,
-        function,
-        &groups[..n],
-        cut,
-        digits,
-        out,
-    ) else {
+    let Some(bytes) = reader::print_heard(identity, function, &groups[..n], cut, digits, out) else {
         return Line { end, bytes: 0 };
     };
     Line { end, bytes }

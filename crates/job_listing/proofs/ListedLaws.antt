@@ -1,6 +1,6 @@
 -- What the sent words of a job, in buffers that suffice for every job, say of its listing. Assumes nothing.
 use Prim.Native.Nat.{ℕ, ◌*◌, ◌≤◌}
-use mathlib.Core.Path.{◌≡◌, refl, sym, ◌∙◌}
+use mathlib.Core.Path.{◌≡◌, refl, sym, ap, ◌∙◌}
 use mathlib.Core.Bool.{Bool, true, false, cond}
 use mathlib.Core.List.{List}
 use native.Mathlib.Omega.{arith}
@@ -8,12 +8,12 @@ use lib.ListN.{length, take, drop}
 use lib.Seq.{take_all, take_at}
 use lib.Dec.{ltb}
 use borrow.Author.Tests.{le-ltb}
+use Rattle.job.specs.Refusal.{JobAnswer}
+use Rattle.std.specs.Prelude.{Ok, Err}
 use Rattle.base.specs.Lists.{over}
 use Rattle.job.specs.Submission.{Submission}
 use Rattle.job.specs.Job.{job_of}
-use Rattle.job.specs.declared.Refusal.{Refusal}
-use Rattle.job.specs.declared.JobAnswer.{JobAnswer}
-use Rattle.job.specs.declared.JobAnswer.TheVariants.{Accepted, Refused}
+use Rattle.job.specs.declared.Refused.{Refused}
 use Rattle.listing.specs.Text.{text_of}
 use Rattle.listing.specs.Writing.{writing_of, bytes_written}
 use Rattle.listing.specs.declared.Writing.{Writing}
@@ -22,8 +22,10 @@ use Rattle.listing.proofs.TextLaws.{text_length}
 use Rattle.placement.specs.Placement.{batches}
 use Rattle.transmission.specs.Sending.{sendings_of, placement_of}
 use Rattle.transmission.specs.Transmission.{word_count, transmission_of}
-use Rattle.transmission.specs.Report.{answered, report_of}
-use Rattle.transmission.specs.declared.Report.TheVariants as report
+use Rattle.transmission.specs.Report.{Report, answered, report_of}
+use Rattle.transmission.specs.declared.SendError.{SendError}
+use Rattle.transmission.specs.Report as report
+use Rattle.transmission.specs.declared.SendError.TheVariants as error
 use Rattle.transmission.proofs.Sendings.{accepted_sendings, sendings_limits}
 use Rattle.transmission.proofs.TransmissionLaws.{transmission_length}
 use Rattle.job_listing.specs.Listed.{listing_text, written_into, listed_of, bytes_listed}
@@ -59,54 +61,53 @@ pub record Sends (s : Submission) (m : ℕ) : Type 0 where
   pub fits : m ≤ 5118
 
 module _ (s : Submission) where
-  enough : (n : ℕ) → job_of s ≡ Accepted n → (ltb 5118 (word_count (placement_of (sendings_of s))) ≡ false) × (ltb 48 (length (sendings_of s)) ≡ false)
+  enough : (n : ℕ) → job_of s ≡ Ok n → (ltb 5118 (word_count (placement_of (sendings_of s))) ≡ false) × (ltb 48 (length (sendings_of s)) ≡ false)
   enough n e =
       let a = accepted_sendings s n e in
       let few = (sendings_limits a).most in
       (le-ltb 5118 (word_count (placement_of (sendings_of s))) (omega arith), le-ltb 48 (length (sendings_of s)) a.most)
 
-  sent_by : (a : JobAnswer) → job_of s ≡ a → (b m : ℕ) → answered a (sendings_of s) 5118 48 ≡ report.Sent b m → Sends s m
+  sent_by : (a : JobAnswer) → job_of s ≡ a → (b m : ℕ) → answered a (sendings_of s) 5118 48 ≡ report.sent b m → Sends s m
   unfolding listed_of
-  sent_by (Accepted n) e b m q =
+  sent_by (Ok n) e b m q =
       let h = enough n e in
-      let r : report.Sent (batches (placement_of (sendings_of s))) (word_count (placement_of (sendings_of s))) ≡ report.Sent b m = rw (h.0, h.1) at q in
-      let m_is : word_count (placement_of (sendings_of s)) ≡ m = cc in
+      let r : report.sent (batches (placement_of (sendings_of s))) (word_count (placement_of (sendings_of s))) ≡ report.sent b m = rw (h.0, h.1) at q in
+      let m_is : word_count (placement_of (sendings_of s)) ≡ m = ap report.words_of r in
       record { answer = λ room. rw e; size = sym m_is ∙ sym (transmission_length _ _); fits = omega (arith, (sendings_limits (accepted_sendings s n e)).most) }
-  sent_by (Refused why place) e b m q = let z : ◌≡◌ {A = ℕ} 0 1 = cc in absurd (omega arith)
+  sent_by (Err r) e b m q = let z : ◌≡◌ {A = ℕ} 0 1 = cc in absurd (omega arith)
 
-  declined_by : (a : JobAnswer) → job_of s ≡ a → (why : Refusal) (place : ℕ) → answered a (sendings_of s) 5118 48 ≡ report.Declined why place
-      → (room : ℕ) → listed_of s room ≡ Declined why place
+  declined_by : (a : JobAnswer) → job_of s ≡ a → (w : Refused) → answered a (sendings_of s) 5118 48 ≡ Err (error.Job w)
+      → (room : ℕ) → listed_of s room ≡ Declined w.why w.place
   unfolding listed_of
-  declined_by (Accepted n) e why place q room =
+  declined_by (Ok n) e w q room =
       let h = enough n e in
-      let r : report.Sent (batches (placement_of (sendings_of s))) (word_count (placement_of (sendings_of s))) ≡ report.Declined why place = rw (h.0, h.1) at q in
+      let r : report.sent (batches (placement_of (sendings_of s))) (word_count (placement_of (sendings_of s))) ≡ Err (error.Job w) = rw (h.0, h.1) at q in
       let z : ◌≡◌ {A = ℕ} 0 1 = cc in
       absurd (omega arith)
-  declined_by (Refused w p) e why place q room =
-      let same_why : w ≡ why = cc in
-      let same_place : p ≡ place = cc in
-      rw (e, same_why, same_place)
+  declined_by (Err r) e w q room =
+      let same : r ≡ w = cc in
+      rw (e, same)
 
-  not_short : (a : JobAnswer) → job_of s ≡ a → answered a (sendings_of s) 5118 48 ≡ report.NoRoom → ⊥
-  not_short (Accepted n) e q =
+  not_short : (a : JobAnswer) → job_of s ≡ a → answered a (sendings_of s) 5118 48 ≡ Err error.NoRoom → ⊥
+  not_short (Ok n) e q =
       let h = enough n e in
-      let r : report.Sent (batches (placement_of (sendings_of s))) (word_count (placement_of (sendings_of s))) ≡ report.NoRoom = rw (h.0, h.1) at q in
+      let r : report.sent (batches (placement_of (sendings_of s))) (word_count (placement_of (sendings_of s))) ≡ Err error.NoRoom = rw (h.0, h.1) at q in
       let z : ◌≡◌ {A = ℕ} 0 1 = cc in
       omega arith
-  not_short (Refused w p) e q = let z : ◌≡◌ {A = ℕ} 0 1 = cc in omega arith
+  not_short (Err r) e q = let z : ◌≡◌ {A = ℕ} 0 1 = cc in omega arith
 
   -- where the job is sent, the answer is that of writing its transmission, which stands over the front of the words
-  pub sent : (b m : ℕ) → report.Sent b m ≡ report_of s 5118 48 → Sends s m
+  pub sent : (b m : ℕ) → report.sent b m ≡ report_of s 5118 48 → Sends s m
   unfolding report_of
   sent b m q = sent_by (job_of s) refl b m (sym q)
 
-  pub declined : (why : Refusal) (place : ℕ) → report.Declined why place ≡ report_of s 5118 48 → (room : ℕ) → listed_of s room ≡ Declined why place
+  pub declined : (w : Refused) {r : Report} {e : SendError} → r ≡ Err e → e ≡ error.Job w → r ≡ report_of s 5118 48 → (room : ℕ) → listed_of s room ≡ Declined w.why w.place
   unfolding report_of
-  declined why place q = declined_by (job_of s) refl why place (sym q)
+  declined w is job q = declined_by (job_of s) refl w (sym q ∙ is ∙ ap {B = Report} Err job)
 
-  pub roomy : report.NoRoom ≡ report_of s 5118 48 → ⊥
+  pub roomy : {r : Report} {e : SendError} → r ≡ Err e → e ≡ error.NoRoom → r ≡ report_of s 5118 48 → ⊥
   unfolding report_of
-  roomy q = not_short (job_of s) refl (sym q)
+  roomy is room q = not_short (job_of s) refl (sym q ∙ is ∙ ap {B = Report} Err room)
 
 -- the words that were sent, out of the slice that they stand in
 pub front : (s : Submission) (w : List ℕ) (m : ℕ) → m ≡ length (transmission_of (sendings_of s)) → take m (over w (transmission_of (sendings_of s))) ≡ transmission_of (sendings_of s)

@@ -1,10 +1,9 @@
 -- A job with its phrase book straight to its listing: what the call answers, and what it leaves in the lent slice of bytes.
-use Rattle.std.specs.Prelude.{ℕ, cond, List, [], length, ltb}
+use Rattle.job.specs.Refusal.{JobAnswer}
+use Rattle.std.specs.Prelude.{ℕ, cond, List, [], length, ltb, Ok, Err}
 use Rattle.job.specs.Submission.{Submission}
 use Rattle.job.specs.Job.{job_of}
 use Rattle.job.specs.Refusal as refusal
-use Rattle.job.specs.declared.JobAnswer.{JobAnswer}
-use Rattle.job.specs.declared.JobAnswer.TheVariants.{Accepted, Refused}
 use Rattle.listing.specs.Text.{text_of}
 use Rattle.transmission.specs.Sending.{sendings_of}
 use Rattle.transmission.specs.Transmission.{transmission_of}
@@ -21,8 +20,8 @@ written_into room text = cond (ltb room (length text)) NoRoom (Written (length t
 
 -- the job's own refusal comes first; then number 10
 abbrev pub answered : JobAnswer → ℕ → List ℕ → Listed
-answered (Refused why place) room text = Declined why place
-answered (Accepted n) room text = written_into room text
+answered (Err r) room text = Declined r.why r.place
+answered (Ok n) room text = written_into room text
 
 -- the answer to a job
 unfoldable pub listed_of : Submission → ℕ → Listed

@@ -7,9 +7,9 @@ ghost use Rattle.job.specs.Submission.{with_book};
 ghost use Rattle.listing.specs.Text.{text_of};
 ghost use Rattle.job_listing.specs.Listed.{listing_text, listed_of, written_into, bytes_listed, number_of, place_of, position_of};
 
-use job::{JobAnswer, Refusal};
+use job::{Refusal, Refused};
 use listing::Writing;
-use transmission::Report;
+use transmission::SendError;
 
 // What listing a job answers.
 #[derive(Clone, Copy)]
@@ -28,10 +28,7 @@ pub fn number(a: Listed) -> u32
 {
     match a {
         Listed::Written(_) => 0,
-        Listed::Declined { why, place } => job::number(JobAnswer::Refused {
-            why: why,
-            place: place,
-        }),
+        Listed::Declined { why, place } => job::number(Err(Refused { why, place })),
         Listed::NoRoom => 10,
     }
 }
@@ -53,10 +50,7 @@ pub fn position(a: Listed) -> usize
 {
     match a {
         Listed::Written(_) => 0,
-        Listed::Declined { why, place } => job::position(JobAnswer::Refused {
-            why: why,
-            place: place,
-        }),
+        Listed::Declined { why, place } => job::position(Err(Refused { why, place })),
         Listed::NoRoom => 0,
     }
 }
@@ -70,15 +64,14 @@ pub fn list_job<'a>(job: &'a [u8], book: &'a [u8], out: &mut [u8]) -> Listed
     let mut slots = slot_buffer();
     let report = transmission::send(job, book, &mut words, &mut slots);
     match report {
-        Report::Sent {
-            batches: _,
-            words: n,
-        } => write_front(&words, n as usize, out),
-        Report::Declined { why, place } => Listed::Declined {
-            why: why,
-            place: place,
+        Ok(sent) => write_front(&words, sent.words as usize, out),
+        Err(error) => match error {
+            SendError::Job(refusal) => Listed::Declined {
+                why: refusal.why,
+                place: refusal.place,
+            },
+            SendError::NoRoom => Listed::NoRoom,
         },
-        Report::NoRoom => Listed::NoRoom,
     }
 }
 

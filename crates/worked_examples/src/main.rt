@@ -6,11 +6,10 @@
 ghost use Rattle.io.specs.Counts.{IsPrefixLen};
 
 use codeword::{Codeword, Corrected, Engine};
-use job::JobAnswer;
+use job::Refused;
 use reader::Reading;
 use std::io::Read;
 use text::Coding;
-use transmission::Report;
 
 fn print(rt: &impl Print, s: &[u8]) {
     let _ = rt.write_all(s);
@@ -147,13 +146,13 @@ fn newlines(question: &[u8], out: &mut [u8]) -> usize {
     i
 }
 
-fn print_answer(rt: &impl Print, answer: JobAnswer) {
+fn print_answer(rt: &impl Print, answer: Result<usize, Refused>) {
     match answer {
-        JobAnswer::Accepted(n) => {
+        Ok(n) => {
             print(rt, b" accepted ");
             print_number(rt, n as u64);
         }
-        JobAnswer::Refused { why: _, place: _ } => {
+        Err(_) => {
             print(rt, b" refused ");
             print_number(rt, job::number(answer) as u64);
             print(rt, b" place ");
@@ -255,15 +254,11 @@ fn send_front(rt: &impl Print, bytes: &[u8], n: usize, pages: usize) {
     let mut words = word_buffer();
     let mut slots = [0u32; 48];
     let report = transmission::send(job_of(question), book_of(question), &mut words, &mut slots);
-    if let Report::Sent {
-        batches,
-        words: count,
-    } = report
-    {
+    if let Ok(sent) = report {
         print(rt, b" batches ");
-        print_number(rt, batches as u64);
+        print_number(rt, sent.batches as u64);
         print(rt, b" words ");
-        print_number(rt, count as u64);
+        print_number(rt, sent.words as u64);
         print(rt, b" slots");
         print_numbers(rt, &slots, pages);
     } else {
@@ -287,8 +282,8 @@ fn pages_of(bytes: &[u8], n: usize) -> usize {
     let question = base::part(bytes, 0, n);
     let answer = job::read_job(job_of(question), book_of(question)).answer;
     match answer {
-        JobAnswer::Accepted(pages) => pages,
-        JobAnswer::Refused { why: _, place: _ } => 0,
+        Ok(pages) => pages,
+        Err(_) => 0,
     }
 }
 
