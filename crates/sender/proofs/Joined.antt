@@ -12,7 +12,7 @@ use borrow.Author.Tests.{le-ltb, ltb-true, ltb-false}
 use Rattle.base.specs.Search.{least}
 use Rattle.base.proofs.Bools.{or_true}
 use Rattle.base.proofs.SearchLaws.{least_is}
-use Rattle.sender.specs.Plan.{Joined}
+use Rattle.sender.specs.Pages.{Joined}
 use Rattle.sender.proofs.Search.{or_false, or_right, found_none}
 
 -- neither number is over both joined
@@ -32,6 +32,14 @@ module _ (f : ℕ → ℕ) where
         each_below = λ k l. below_more (λ i. f i < 2 ^ k) n (h.each_below k (omega (arith, or_left r v))) (omega (arith, or_both r v));
         all_below = λ k g. or_lt k r v (h.all_below k (λ i l. g i (omega arith))) (omega (arith, g n (omega arith)));
       }
+
+-- only the first n numbers count
+pub joined_same : (f g : ℕ → ℕ) (n r : ℕ) → ((i : ℕ) → i < n → g i ≡ f i) → Joined f n r → Joined g n r
+joined_same f g n r e h =
+    record {
+      each_below = λ k l i m. omega (arith, e i m, h.each_below k l i m);
+      all_below = λ k b. h.all_below k (λ i m. omega (arith, e i m, b i m));
+    }
 
 -- one of n pages is wrong exactly when the joined numbers tell it
 module _ (f g : ℕ → ℕ) (n r s : ℕ) (p : Joined f n r) (q : Joined (λ i. g i + 63) n s) where

@@ -3,7 +3,7 @@ pub mod Joined
 pub mod Alike
 pub mod EveryStep
 pub mod Ways
-pub mod Planned
+pub mod Slot
 pub mod Held
 pub mod Iterated
 pub mod Elem

@@ -1,6 +1,6 @@
 pub mod Answer
 pub mod Step
-pub mod Plan
+pub mod Pages
 pub mod EveryStep
 pub mod Start
 pub mod Stepping
