@@ -1,6 +1,6 @@
 -- The library's answers as C has them: numbers only. A number is that of document 01's table, 0 where nothing is declined; a place is its
 -- place, and a position its second place (request R-1).
-use Rattle.std.specs.Prelude.{ℕ}
+use Rattle.std.specs.Prelude.{ℕ, Result}
 use Rattle.codeword.specs.Answer as correction
 use Rattle.codeword.specs.declared.Correction.{Correction}
 use Rattle.job.specs.Refusal.{job_number, job_place, job_position}
@@ -13,9 +13,11 @@ use Rattle.job_listing.specs.declared.Listed.{Listed}
 use Rattle.reader.specs.Answers as reading
 use Rattle.reader.specs.declared.Reading.{Reading}
 use Rattle.follower.specs.Answers as following
-use Rattle.follower.specs.declared.Following.{Following}
+use Rattle.follower.specs.declared.Followed.{Followed}
+use Rattle.follower.specs.declared.FollowError.{FollowError}
 use Rattle.receiver.specs.Answers as receiving
-use Rattle.receiver.specs.declared.Receiving.{Receiving}
+use Rattle.receiver.specs.declared.Refusal as receiver
+use Rattle.receiver.specs.declared.Totals.{Totals}
 use Rattle.coverage.specs.Report as covering
 use Rattle.coverage.specs.declared.Adding.{Adding}
 use Rattle.sender.specs.Answer as step
@@ -68,12 +70,12 @@ unread_for place number =
     record { place = place; bytes = 0; number = number; pages = 0; lost = 0; orphans = 0; changed = record { slots = 0; syncs = 0 } }
 
 -- the answer of a following
-abbrev pub following_for : Following → CardFollowing
+abbrev pub following_for : Result Followed FollowError → CardFollowing
 following_for r =
     record { place = following.place_of r; bytes = following.bytes_followed r; number = following.number_of r; lines = following.lines_followed r }
 
 -- the answer of a receiving
-abbrev pub receiving_for : Receiving → CardReceiving
+abbrev pub receiving_for : Result Totals receiver.Refusal → CardReceiving
 receiving_for r =
     let t = receiving.totals_received r in
     record {

@@ -22,7 +22,7 @@ ghost use Rattle.card.specs.Answers.{word_for, report_for, bytes_for, reading_fo
 
 use codeword::{Correction, Engine};
 use coverage::{Coverage, Rate};
-use follower::Following;
+use follower::{FollowError, Followed};
 use job::JobAnswer;
 use job_listing::Listed;
 use reader::{Changes, Reading};
@@ -342,19 +342,19 @@ pub fn card_read_listing_slowly(listing: &[u8], out: &mut [u8]) -> CardReading
 }
 
 // A following's answer as numbers.
-fn following_numbers(r: Following) -> CardFollowing
+fn following_numbers(r: Result<Followed, FollowError>) -> CardFollowing
     ensures { result ≡ following_for r }
 {
     let place = follower::place(r);
     let number = follower::number(r);
     match r {
-        Following::Followed { lines, bytes } => CardFollowing {
+        Ok(followed) => CardFollowing {
             place: place,
-            bytes: bytes,
+            bytes: followed.bytes,
             number: number,
-            lines: lines,
+            lines: followed.lines,
         },
-        Following::Declined(_) => CardFollowing {
+        Err(_) => CardFollowing {
             place: place,
             bytes: 0,
             number: number,

@@ -4,7 +4,9 @@ use Rattle.base.specs.Lists.{over}
 use Rattle.listing.specs.Words.{words_of}
 use Rattle.follower.specs.Pages.{pages_for}
 use Rattle.follower.specs.Answers.{lines_of}
-use Rattle.follower.specs.declared.Following.{Following}
+use Rattle.std.specs.declared.result.Result.{Result}
+use Rattle.follower.specs.declared.Followed.{Followed}
+use Rattle.follower.specs.declared.FollowError.{FollowError}
 use Rattle.card.specs.Answers.{following_for}
 use Rattle.card.proofs.card_follow_listing.Goals as goal
 
@@ -12,5 +14,5 @@ pub returns : goal.returns
 returns c =
     let a = c.args in record {
       value = c.following_numbers.ensures ∙ ap following_for c.follow_listing-following.ensures.value;
-      out_after = c.follow_listing-following.ensures.out_after ∙ ap (λ (r : Following). over a.out.now (lines_of r (pages_for a.identity (words_of a.listing.now)))) c.follow_listing-following.ensures.value;
+      out_after = c.follow_listing-following.ensures.out_after ∙ ap (λ (r : Result Followed FollowError). over a.out.now (lines_of r (pages_for a.identity (words_of a.listing.now)))) c.follow_listing-following.ensures.value;
     }
