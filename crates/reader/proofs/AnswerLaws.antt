@@ -19,7 +19,7 @@ use Rattle.listing.proofs.Settled.{front}
 use Rattle.reader.specs.Meaning.{meaning}
 use Rattle.reader.specs.Reading.{hear, read_at, ended, slot_word, changes_in, heard_stretch}
 use Rattle.reader.specs.Lines.{lines_heard}
-use Rattle.reader.specs.Answers.{unsynced, first_unsynced, judge_batches, judge_words, judge_decoded, judge_listing, printed_into}
+use Rattle.reader.specs.Answers.{unsynced, first_unsynced, judge_batches, judge_words, judge_decoded, judge_listing, printed_into, Verdict}
 use Rattle.reader.specs.Readable.{Readable, batches_first, Decoding, AllReadable, SoundBatches, SoundWords}
 use Rattle.reader.specs.Symbols.{said, Tells, state_by, heard_by}
 use Rattle.reader.specs.Progress.{KeptAll}
@@ -27,8 +27,7 @@ use Rattle.reader.specs.declared.Changes.{Changes}
 use Rattle.reader.specs.declared.Fault.{Fault}
 use Rattle.reader.specs.declared.Fault.TheVariants.{Malformed, TooMany, Unsynced}
 use Rattle.reader.specs.declared.Progress.{Progress}
-use Rattle.reader.specs.declared.Reading.TheVariants.{Read, NoRoom}
-use Rattle.reader.specs.declared.Verdict.TheVariants.{Sound, Faulty}
+use Rattle.reader.specs.declared.ReadError.TheVariants.{NoRoom}
 
 module _ (words : List ℕ) (q : ℕ) where
   -- the search for a batch that does not begin with sync
@@ -46,12 +45,12 @@ module _ (words : List ℕ) (q : ℕ) where
 module _ (cut : Bool) {symbols : List ℕ} {p : Progress} {lines : List ℕ} (k : KeptAll cut symbols p lines) where
   module _ (old : List ℕ) (changed : Changes) where
     -- they are longer than the lent slice
-    pub no_room : length old < p.bytes → NoRoom ≡ printed_into (heard_by cut symbols changed) (length old)
+    pub no_room : length old < p.bytes → Err NoRoom ≡ printed_into (heard_by cut symbols changed) (length old)
     no_room h = rw (lt-ltb (length old) (length (lines_heard (heard_by cut symbols changed).pages)) (omega (arith, k.size)))
 
     -- they go over its front
     pub all_read : p.bytes ≤ length old
-        → Read p.pages p.lost p.orphans changed p.bytes ≡ printed_into (heard_by cut symbols changed) (length old)
+        → Ok (record { pages = p.pages; lost = p.lost; orphans = p.orphans; changed = changed; bytes = p.bytes }) ≡ printed_into (heard_by cut symbols changed) (length old)
     all_read h =
         rw (
           le-ltb (length old) (length (lines_heard (heard_by cut symbols changed).pages)) (omega (arith, k.size)),
@@ -80,25 +79,25 @@ module _ (words : List ℕ) where
 -- ---- whether words can be read
 
 module _ (words : List ℕ) where
-  pub batches_unsynced : first_unsynced words < length words / 17 → Faulty (Unsynced (first_unsynced words + 1)) ≡ judge_batches words
+  pub batches_unsynced : first_unsynced words < length words / 17 → Err (Unsynced (first_unsynced words + 1)) ≡ judge_batches words
   unfolding judge_batches
   batches_unsynced h = rw (lt-ltb (first_unsynced words) (length words / 17) h)
 
-  pub batches_sound : length words / 17 ≤ first_unsynced words → Sound ≡ judge_batches words
+  pub batches_sound : length words / 17 ≤ first_unsynced words → Ok tt ≡ judge_batches words
   unfolding judge_batches
   batches_sound h = rw (le-ltb (first_unsynced words) (length words / 17) h)
 
-  pub words_none : length words ≡ 0 → Faulty (Malformed 0) ≡ judge_words words
+  pub words_none : length words ≡ 0 → Err (Malformed 0) ≡ judge_words words
   unfolding judge_words
   words_none e = rw (eq-eqb (length words) 0 e)
 
   module _ (some : length words ≡ 0 → ⊥) where
-    pub words_part : (length words % 17 ≡ 0 → ⊥) → Faulty (Malformed 0) ≡ judge_words words
+    pub words_part : (length words % 17 ≡ 0 → ⊥) → Err (Malformed 0) ≡ judge_words words
     unfolding judge_words
     words_part e = rw (ne_eqb (length words) 0 some, ne_eqb (length words % 17) 0 e)
 
     module _ (whole : length words % 17 ≡ 0) where
-      pub words_many : 300 < length words / 17 → Faulty (TooMany 0) ≡ judge_words words
+      pub words_many : 300 < length words / 17 → Err (TooMany 0) ≡ judge_words words
       unfolding judge_words
       words_many h = rw (ne_eqb (length words) 0 some, eq-eqb (length words % 17) 0 whole, lt-ltb 300 (length words / 17) h)
 
@@ -117,24 +116,24 @@ sound_words words b some few e synced =
 
 -- ---- words that can be read
 
-faulty_sound : {why : Fault} → Faulty why ≡ Sound → ⊥
+faulty_sound : {why : Fault} → ◌≡◌ {A = Verdict} (Err why) (Ok tt) → ⊥
 faulty_sound e = let z : ◌≡◌ {A = ℕ} 0 1 = cc in omega arith
 
-batches_synced : (words : List ℕ) → judge_batches words ≡ Sound → length words / 17 ≤ first_unsynced words
+batches_synced : (words : List ℕ) → judge_batches words ≡ Ok tt → length words / 17 ≤ first_unsynced words
 unfolding judge_batches
 batches_synced words = go (ltb (first_unsynced words) (length words / 17)) refl
   where
-    go : (b : Bool) → ltb (first_unsynced words) (length words / 17) ≡ b → cond b (Faulty (Unsynced (first_unsynced words + 1))) Sound ≡ Sound
+    go : (b : Bool) → ltb (first_unsynced words) (length words / 17) ≡ b → ◌≡◌ {A = Verdict} (cond b (Err (Unsynced (first_unsynced words + 1))) (Ok tt)) (Ok tt)
         → length words / 17 ≤ first_unsynced words
     go true e s = absurd (faulty_sound s)
     go false e s = ltb-false (first_unsynced words) (length words / 17) e
 
-words_readable : (words : List ℕ) → judge_words words ≡ Sound → Readable words
+words_readable : (words : List ℕ) → judge_words words ≡ Ok tt → Readable words
 unfolding judge_words
 words_readable words = go (eqb (length words) 0) (eqb (length words % 17) 0) refl (ltb 300 (length words / 17)) refl
   where
     go : (a b : Bool) → eqb (length words % 17) 0 ≡ b → (c : Bool) → ltb 300 (length words / 17) ≡ c
-        → cond (a || not b) (Faulty (Malformed 0)) (cond c (Faulty (TooMany 0)) (judge_batches words)) ≡ Sound → Readable words
+        → ◌≡◌ {A = Verdict} (cond (a || not b) (Err (Malformed 0)) (cond c (Err (TooMany 0)) (judge_batches words))) (Ok tt) → Readable words
     go true b e c f s = absurd (faulty_sound s)
     go false false e c f s = absurd (faulty_sound s)
     go false true e true f s = absurd (faulty_sound s)
@@ -143,11 +142,11 @@ words_readable words = go (eqb (length words) 0) (eqb (length words % 17) 0) ref
       synced = batches_synced words s;
     }
 
-listing_readable : (s : List ℕ) → judge_listing s ≡ Sound → Readable (words_of s)
+listing_readable : (s : List ℕ) → judge_listing s ≡ Ok tt → Readable (words_of s)
 unfolding judge_listing
 listing_readable s = go (listing_of s) refl
   where
-    go : (l : Listing) → listing_of s ≡ l → judge_decoded l (words_of s) ≡ Sound → Readable (words_of s)
+    go : (l : Listing) → listing_of s ≡ l → judge_decoded l (words_of s) ≡ Ok tt → Readable (words_of s)
     go (Ok shape) e f =
         let there = formed s shape.preamble shape.batches e in
         record { few = omega (arith, there.count, there.limits.few); synced = batches_synced (words_of s) f }

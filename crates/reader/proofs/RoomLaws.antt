@@ -8,6 +8,7 @@ use native.Mathlib.Omega.{arith}
 use lib.ListN.{length, length-append}
 use lib.Dec.{ltb}
 use borrow.Author.Tests.{le-ltb}
+use Rattle.std.specs.Prelude.{Ok, Err}
 use Rattle.base.proofs.SearchLaws.{sum_most}
 use Rattle.codeword.specs.Answer.{changed}
 use Rattle.codeword.specs.Nearest.{nearest}
@@ -18,16 +19,14 @@ use Rattle.listing.specs.Words.{words_of}
 use Rattle.reader.specs.Meaning.{meaning}
 use Rattle.reader.specs.Reading.{Hearing, State, Heard, closed_as, close, take, hear, read_at, slot_word, sync_word, heard_stretch, heard_in}
 use Rattle.reader.specs.Lines.{kind_heard, line_heard, lines_heard}
-use Rattle.reader.specs.Answers.{judge_words, judge_listing, printed_into, answered, read_stretch, read_listing, number_of}
+use Rattle.reader.specs.Answers.{judge_words, judge_listing, printed_into, answered, read_stretch, read_listing, bytes_read, number_of, Verdict}
 use Rattle.reader.specs.Readable.{Readable}
 use Rattle.reader.specs.Enough.{Enough}
 use Rattle.reader.specs.Most.{AllWithin, PagesFew}
 use Rattle.reader.specs.Changed.{slot_changed}
-use Rattle.reader.specs.declared.Changes.{Changes}
 use Rattle.reader.specs.declared.Fault.TheVariants.{Malformed, TooMany, Unsynced}
-use Rattle.reader.specs.declared.Reading.TheVariants.{Read, NoRoom}
-use Rattle.reader.specs.declared.Verdict.{Verdict}
-use Rattle.reader.specs.declared.Verdict.TheVariants.{Sound, Faulty}
+use Rattle.reader.specs.declared.Read.{Read}
+use Rattle.reader.specs.declared.ReadError.TheVariants.{NoRoom}
 use Rattle.reader.specs.declared.Meaning.{Meaning}
 use Rattle.reader.specs.declared.Meaning.TheVariants.{Lost, Idle, Address, Message}
 use Rattle.reader.proofs.AnswerLaws.{readable}
@@ -141,18 +140,18 @@ module _ (words : List ℕ) (room : ℕ) (h : 48000 ≤ room) where
   abbrev lines : ℕ
   lines = length (lines_heard (heard_in words).pages)
 
-  answer_fits : (v : Verdict) → (v ≡ Sound → Readable words) → number_of (answered v (heard_in words) room) ≡ 10 → ⊥
-  answer_fits (Faulty (Malformed line)) r e = omega arith
-  answer_fits (Faulty (TooMany line)) r e = omega arith
-  answer_fits (Faulty (Unsynced batch)) r e = omega arith
-  answer_fits Sound r e =
+  answer_fits : (v : Verdict) → (v ≡ Ok tt → Readable words) → number_of (answered v (heard_in words) room) ≡ 10 → ⊥
+  answer_fits (Err (Malformed line)) r e = omega arith
+  answer_fits (Err (TooMany line)) r e = omega arith
+  answer_fits (Err (Unsynced batch)) r e = omega arith
+  answer_fits (Ok v) r e =
       let zero : number_of (printed_into (heard_in words) room) ≡ 0 = rw (le-ltb room lines (omega (arith, lines_short false words, (r refl).few))) in
       omega arith
 
   -- more room changes nothing
-  answer_same : (v : Verdict) → (v ≡ Sound → Readable words) → answered v (heard_in words) room ≡ answered v (heard_in words) 48000
-  answer_same (Faulty why) r = refl
-  answer_same Sound r =
+  answer_same : (v : Verdict) → (v ≡ Ok tt → Readable words) → answered v (heard_in words) room ≡ answered v (heard_in words) 48000
+  answer_same (Err why) r = refl
+  answer_same (Ok v) r =
       let few = (r refl).few in
       rw (le-ltb room lines (omega (arith, lines_short false words)), le-ltb 48000 lines (omega (arith, lines_short false words)))
 
@@ -169,17 +168,17 @@ listing_same s room h = answer_same (words_of s) room h (judge_listing s) (reada
 
 -- ---- how many bytes are written
 
-module _ (h : Heard) (room : ℕ) {pages lost orphans : ℕ} {changed : Changes} {m : ℕ} where
-  answer_size : (v : Verdict) → Read pages lost orphans changed m ≡ answered v h room → m ≡ length (lines_heard h.pages)
-  answer_size (Faulty why) e = let z : ◌≡◌ {A = ℕ} 0 1 = cc in absurd (omega arith)
-  answer_size Sound e = go (ltb room (length (lines_heard h.pages))) e
+module _ (h : Heard) (room : ℕ) {r : Read} where
+  answer_size : (v : Verdict) → Ok r ≡ answered v h room → r.bytes ≡ length (lines_heard h.pages)
+  answer_size (Err why) e = let z : ◌≡◌ {A = ℕ} 0 1 = cc in absurd (omega arith)
+  answer_size (Ok v) e = go (ltb room (length (lines_heard h.pages))) e
     where
-      go : (b : Bool) → Read pages lost orphans changed m ≡ cond b NoRoom (Read (length h.pages) h.lost h.orphans h.changed (length (lines_heard h.pages))) → m ≡ length (lines_heard h.pages)
+      go : (b : Bool) → Ok r ≡ cond b (Err NoRoom) (Ok (record { pages = length h.pages; lost = h.lost; orphans = h.orphans; changed = h.changed; bytes = length (lines_heard h.pages) }))
+          → r.bytes ≡ length (lines_heard h.pages)
       go true f = let z : ◌≡◌ {A = ℕ} 0 1 = cc in absurd (omega arith)
-      go false f = cc
+      go false f = ap bytes_read f
 
 -- the lines of a reading that isn't declined have as many bytes as it answers
-pub bytes_read_lem : (s : List ℕ) (room : ℕ) {pages lost orphans : ℕ} {changed : Changes} {m : ℕ} → Read pages lost orphans changed m ≡ read_listing s room
-    → m ≡ length (lines_heard (heard_in (words_of s)).pages)
+pub bytes_read_lem : (s : List ℕ) (room : ℕ) {r : Read} → Ok r ≡ read_listing s room → r.bytes ≡ length (lines_heard (heard_in (words_of s)).pages)
 unfolding read_listing
 bytes_read_lem s room e = answer_size (heard_in (words_of s)) room (judge_listing s) e

@@ -15,7 +15,7 @@ ghost use Rattle.reader.specs.Answers.{first_unsynced, judge_batches, judge_word
 ghost use Rattle.reader.specs.Readable.{Readable, batches_first, Decoding};
 ghost use Rattle.reader.specs.Symbols.{said, Tells, state_by, heard_by, page_in, Printable};
 ghost use Rattle.reader.specs.Progress.{Buffers, Room, Messages, Idles, Quiet, with_messages, Kept, KeptAll, closed};
-ghost use Rattle.reader.specs.declared.Verdict.TheVariants.{Sound};
+ghost use Rattle.reader.specs.declared.ReadError.TheVariants.{Fault as Faulty};
 
 use codeword::{Codeword, Corrected, Engine};
 use text::Coding;
@@ -43,14 +43,6 @@ pub enum Fault {
     Unsynced(usize),
 }
 
-// Whether words can be read, before their pages are looked at.
-#[derive(Clone, Copy)]
-pub enum Verdict {
-    // At most 300 whole batches, which all begin with sync.
-    Sound,
-    Faulty(Fault),
-}
-
 // How many bits are changed in the slots' words, of which lost ones count 0, and in the sync words.
 #[repr(C)]
 #[derive(Clone, Copy)]
@@ -59,20 +51,30 @@ pub struct Changes {
     pub syncs: u32,
 }
 
-// What reading answers.
+// What was read: pages, lost words and orphans, the changed bits, and how many bytes of page lines are written.
 #[derive(Clone, Copy)]
-pub enum Reading {
-    // Pages, lost words and orphans, the changed bits, and how many bytes of page lines are written.
-    Read {
-        pages: u32,
-        lost: u32,
-        orphans: u32,
-        changed: Changes,
-        bytes: usize,
-    },
-    Declined(Fault),
+pub struct Read {
+    pub pages: u32,
+    pub lost: u32,
+    pub orphans: u32,
+    pub changed: Changes,
+    pub bytes: usize,
+}
+
+// Why nothing is read.
+#[derive(Clone, Copy)]
+pub enum ReadError {
+    Fault(Fault),
     // Number 10: the lent slice is shorter than the lines.
     NoRoom,
+}
+
+impl From<Fault> for ReadError {
+    ghost from_gives = { λ why e. e ≡ Faulty why };
+
+    fn from(why: Fault) -> ReadError {
+        ReadError::Fault(why)
+    }
 }
 
 // What a received word is read as: its symbol, and how many bits are changed, none where it is lost.
@@ -458,7 +460,7 @@ fn read_into(
     digits: &mut [u8],
     lines: &mut [u8],
     out: &mut [u8],
-) -> Reading
+) -> Result<Read, ReadError>
     requires { Buffers symbols.now digits.old lines.old }
     ensures value { result ≡ printed_into (heard_by cut symbols.now changed) (length out.old) }
     ensures out_after { out.new ≡ over out.old (lines_of result (heard_by cut symbols.now changed)) }
@@ -466,16 +468,16 @@ fn read_into(
     let p = hear_all(symbols, cut, digits, lines);
     let n = p.bytes;
     if out.len() < n {
-        return Reading::NoRoom;
+        return Err(ReadError::NoRoom);
     }
     out[..n].copy_from_slice(&lines[..n]);
-    Reading::Read {
+    Ok(Read {
         pages: p.pages,
         lost: p.lost,
         orphans: p.orphans,
-        changed: changed,
+        changed,
         bytes: n,
-    }
+    })
 }
 
 // Reads whole batches that all begin with sync, with room lent for their slots' symbols, for digits and for lines.
@@ -487,7 +489,7 @@ fn read_synced(
     digits: &mut [u8],
     lines: &mut [u8],
     out: &mut [u8],
-) -> Reading
+) -> Result<Read, ReadError>
     requires { Room words.now (length symbols.old) (length digits.old) (length lines.old) }
     ensures value { result ≡ printed_into (heard_stretch cut words.now) (length out.old) }
     ensures out_after { out.new ≡ over out.old (lines_of result (heard_stretch cut words.now)) }
@@ -506,7 +508,7 @@ fn read_within<const S: usize, const D: usize, const L: usize>(
     words: &[u32],
     cut: bool,
     out: &mut [u8],
-) -> Reading
+) -> Result<Read, ReadError>
     requires room { Room words.now S D L }
     requires few_slots { S ≤ 4800 }
     requires few_digits { D ≤ 48000 }
@@ -529,7 +531,7 @@ fn read_within<const S: usize, const D: usize, const L: usize>(
 }
 
 // Reads words that can be read: to clear the room for 300 batches would take longer than to read 16.
-fn read_sound(engine: Engine, words: &[u32], cut: bool, out: &mut [u8]) -> Reading
+fn read_sound(engine: Engine, words: &[u32], cut: bool, out: &mut [u8]) -> Result<Read, ReadError>
     requires { Readable words.now }
     ensures value { result ≡ printed_into (heard_stretch cut words.now) (length out.old) }
     ensures out_after { out.new ≡ over out.old (lines_of result (heard_stretch cut words.now)) }
@@ -540,43 +542,31 @@ fn read_sound(engine: Engine, words: &[u32], cut: bool, out: &mut [u8]) -> Readi
     read_within::<4800, 48000, 52800>(engine, words, cut, out)
 }
 
-// Reads words by their verdict.
-fn read_judged(engine: Engine, v: Verdict, words: &[u32], cut: bool, out: &mut [u8]) -> Reading
-    requires { v ≡ Sound → Readable words.now }
-    ensures value { result ≡ answered v (heard_stretch cut words.now) (length out.old) }
-    ensures out_after { out.new ≡ over out.old (lines_of result (heard_stretch cut words.now)) }
-{
-    match v {
-        Verdict::Sound => read_sound(engine, words, cut, out),
-        Verdict::Faulty(why) => Reading::Declined(why),
-    }
-}
-
 // Whether whole batches can be read: number 22 where one does not begin with sync.
-fn judge_batches(words: &[u32]) -> Verdict
+fn judge_batches(words: &[u32]) -> Result<(), Fault>
     ensures { result ≡ judge_batches words.now }
 {
     let first = first_unsynced(words);
     if first < words.len() / 17 {
-        return Verdict::Faulty(Fault::Unsynced(first + 1));
+        return Err(Fault::Unsynced(first + 1));
     }
-    Verdict::Sound
+    Ok(())
 }
 
 // Whether a slice of words can be read: numbers 21, 23, 22.
 #[tactic(auto, using(crate::proofs::AnswerLaws::words_many))]
-pub fn judge_words(words: &[u32]) -> Verdict
+pub fn judge_words(words: &[u32]) -> Result<(), Fault>
     ensures { result ≡ judge_words words.now }
 {
     let n = words.len();
     if n == 0 {
-        return Verdict::Faulty(Fault::Malformed(0));
+        return Err(Fault::Malformed(0));
     }
     if n % 17 != 0 {
-        return Verdict::Faulty(Fault::Malformed(0));
+        return Err(Fault::Malformed(0));
     }
     if 300 < n / 17 {
-        return Verdict::Faulty(Fault::TooMany(0));
+        return Err(Fault::TooMany(0));
     }
     judge_batches(words)
 }
@@ -594,12 +584,12 @@ impl From<listing::Fault> for Fault {
 }
 
 // Whether what `listing::decode` answers can be read: numbers 21 or 23, then 22 of its batches, which have these words.
-pub fn judge_decoded(l: Result<listing::Shape, listing::Fault>, words: &[u32]) -> Verdict
+pub fn judge_decoded(l: Result<listing::Shape, listing::Fault>, words: &[u32]) -> Result<(), Fault>
     ensures { result ≡ judge_decoded l words.now }
 {
     match l {
         Ok(_) => judge_batches(words),
-        Err(why) => Verdict::Faulty(Fault::from(why)),
+        Err(why) => Err(Fault::from(why)),
     }
 }
 
@@ -609,28 +599,34 @@ fn read_decoded(
     l: Result<listing::Shape, listing::Fault>,
     words: &[u32],
     out: &mut [u8],
-) -> Reading
+) -> Result<Read, ReadError>
     requires { Decoding l words.now }
     ensures value { result ≡ answered (judge_decoded l (batches_first l words.now)) (heard_in (batches_first l words.now)) (length out.old) }
     ensures out_after { out.new ≡ over out.old (lines_read result (batches_first l words.now)) }
 {
     let n = 17 * listing::batch_count(l);
-    let v = judge_decoded(l, &words[..n]);
-    read_judged(engine, v, &words[..n], false, out)
+    judge_decoded(l, &words[..n])?;
+    read_sound(engine, &words[..n], false, out)
 }
 
 // Reads a slice of words as `read_words` does, but that the end closes an open page as cut short, or not.
-pub fn read_stretch(engine: Engine, words: &[u32], cut: bool, out: &mut [u8]) -> Reading
+#[tactic(auto, unfolding(crate::specs::Answers::read_stretch))]
+pub fn read_stretch(
+    engine: Engine,
+    words: &[u32],
+    cut: bool,
+    out: &mut [u8],
+) -> Result<Read, ReadError>
     ensures value { result ≡ read_stretch cut words.now (length out.old) }
     ensures out_after { out.new ≡ over out.old (lines_of result (heard_stretch cut words.now)) }
 {
-    let v = judge_words(words);
-    read_judged(engine, v, words, cut, out)
+    judge_words(words)?;
+    read_sound(engine, words, cut, out)
 }
 
 // Reads a slice of words, batches only: the lines of the pages go to the front of the bytes, and what stands behind them keeps its value.
 // The engine corrects the slots' words; sync is told, with either, by the bits that differ.
-pub fn read_words(engine: Engine, words: &[u32], out: &mut [u8]) -> Reading
+pub fn read_words(engine: Engine, words: &[u32], out: &mut [u8]) -> Result<Read, ReadError>
     ensures value { result ≡ read_words words.now (length out.old) }
     ensures out_after { out.new ≡ over out.old (lines_read result words.now) }
 {
@@ -638,7 +634,7 @@ pub fn read_words(engine: Engine, words: &[u32], out: &mut [u8]) -> Reading
 }
 
 // Reads a listing as `read_words` reads its words.
-pub fn read_listing(engine: Engine, listing: &[u8], out: &mut [u8]) -> Reading
+pub fn read_listing(engine: Engine, listing: &[u8], out: &mut [u8]) -> Result<Read, ReadError>
     ensures value { result ≡ read_listing listing.now (length out.old) }
     ensures out_after { out.new ≡ over out.old (lines_read result (words_of listing.now)) }
 {
@@ -647,43 +643,27 @@ pub fn read_listing(engine: Engine, listing: &[u8], out: &mut [u8]) -> Reading
 }
 
 // The number of a reading in the table; 0 where it is read.
-pub fn number(r: Reading) -> u32
+pub fn number(r: Result<Read, ReadError>) -> u32
     ensures { result ≡ number_of r }
 {
     match r {
-        Reading::Read {
-            pages: _,
-            lost: _,
-            orphans: _,
-            changed: _,
-            bytes: _,
-        } => 0,
-        Reading::Declined(why) => match why {
-            Fault::Malformed(_) => 21,
-            Fault::TooMany(_) => 23,
-            Fault::Unsynced(_) => 22,
-        },
-        Reading::NoRoom => 10,
+        Ok(_) => 0,
+        Err(ReadError::Fault(Fault::Malformed(_))) => 21,
+        Err(ReadError::Fault(Fault::TooMany(_))) => 23,
+        Err(ReadError::Fault(Fault::Unsynced(_))) => 22,
+        Err(ReadError::NoRoom) => 10,
     }
 }
 
 // The place of a reading; 0 where it is read.
-pub fn place(r: Reading) -> usize
+pub fn place(r: Result<Read, ReadError>) -> usize
     ensures { result ≡ place_of r }
 {
     match r {
-        Reading::Read {
-            pages: _,
-            lost: _,
-            orphans: _,
-            changed: _,
-            bytes: _,
-        } => 0,
-        Reading::Declined(why) => match why {
-            Fault::Malformed(line) => line,
-            Fault::TooMany(line) => line,
-            Fault::Unsynced(batch) => batch,
-        },
-        Reading::NoRoom => 0,
+        Ok(_) => 0,
+        Err(ReadError::Fault(Fault::Malformed(line))) => line,
+        Err(ReadError::Fault(Fault::TooMany(line))) => line,
+        Err(ReadError::Fault(Fault::Unsynced(batch))) => batch,
+        Err(ReadError::NoRoom) => 0,
     }
 }
