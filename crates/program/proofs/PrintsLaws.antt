@@ -7,6 +7,7 @@ use native.Mathlib.Omega.{arith}
 use lib.ListN.{length, drop, length-append}
 use lib.Seq.{length-take-le}
 use borrow.Author.Tests.{eq-eqb, ne_eqb}
+use Rattle.std.specs.Prelude.{Result, ⊤}
 use Rattle.io.specs.Counts.{IsPrefixLen}
 use Rattle.base.specs.Lists.{over}
 use Rattle.job.specs.Submission.{Submission}
@@ -45,7 +46,7 @@ use Rattle.receiver.specs.declared.Refusal.TheVariants.{TooLong, TooMany as TooM
 use Rattle.receiver.specs.declared.Totals.{Totals}
 use Rattle.receiver.proofs.RoomLaws.{bytes_received}
 use Rattle.coverage.specs.Report as covering
-use Rattle.coverage.specs.declared.Adding.{Adding}
+use Rattle.coverage.specs.declared.AddError.{AddError}
 use Rattle.coverage.specs.declared.Coverage.{Coverage}
 use Rattle.program.specs.CoverageText.{coverage_text}
 use Rattle.program.specs.Prints.{is_long, refusal_line, answer_text, send_prints, read_prints, follow_prints, receive_prints, cover_prints}
@@ -188,7 +189,7 @@ module _ (s old : List ℕ) (h : is_long s ≡ false) {out : List ℕ} where
 
 -- ---- the coverage program
 
-module _ (a : Adding) (c : Coverage) (old : List ℕ) {number n : ℕ} {out : List ℕ} where
+module _ (a : Result ⊤ AddError) (c : Coverage) (old : List ℕ) {number n : ℕ} {out : List ℕ} where
   pub cover_whole : number ≡ covering.number_of a → number ≡ 0 → Printed old (coverage_text c) n out → Printed old (cover_prints a c) n out
   unfolding cover_prints
   cover_whole e z p = same old (coverage_text c) (cover_prints a c) out n (rw (eq-eqb (covering.number_of a) 0 (sym e ∙ z))) p

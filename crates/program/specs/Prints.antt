@@ -1,7 +1,7 @@
 -- What the programs print for their standard input, the sending one with its phrase book, the following one for its identity, and the
 -- coverage program for what its files add up to (document 01, "The two programs", and number 24 of its table; requests R-1, R-4, R-6, R-10
 -- and R-12).
-use Rattle.std.specs.Prelude.{ℕ, Bool, cond, Option, None, List, [], ◌∷◌, ◌++◌, length, eqb, ltb}
+use Rattle.std.specs.Prelude.{ℕ, Bool, cond, Option, None, List, [], ◌∷◌, ◌++◌, length, eqb, ltb, Result, ⊤}
 use Rattle.base.specs.Hex.{hex_word}
 use Rattle.job.specs.Submission.{Submission}
 use Rattle.job_listing.specs.Listed as listed
@@ -14,7 +14,7 @@ use Rattle.follower.specs.Answers.{follow_listing, lines_of}
 use Rattle.receiver.specs.Answers as receiving
 use Rattle.receiver.specs.Answers.{receive_bits, lines_received}
 use Rattle.coverage.specs.Report as covering
-use Rattle.coverage.specs.declared.Adding.{Adding}
+use Rattle.coverage.specs.declared.AddError.{AddError}
 use Rattle.coverage.specs.declared.Coverage.{Coverage}
 use Rattle.program.specs.Decimal.{decimal}
 use Rattle.program.specs.CoverageText.{coverage_text}
@@ -72,5 +72,5 @@ receive_prints s =
     unless_long s (answer_text (receiving.number_of (receive_bits s 48300)) (receiving.place_of (receive_bits s 48300)) 0 (lines_received (receive_bits s 48300) s))
 
 -- the coverage program, for its last answer and the report then: the report's lines (request R-12)
-unfoldable pub cover_prints : Adding → Coverage → List ℕ
+unfoldable pub cover_prints : Result ⊤ AddError → Coverage → List ℕ
 cover_prints a c = answer_text (covering.number_of a) (covering.place_of a) 0 (coverage_text c)

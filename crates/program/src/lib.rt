@@ -14,7 +14,7 @@ ghost use Rattle.program.specs.CoverageText.{coverage_text};
 ghost use Rattle.program.specs.Prints.{is_long, refusal_line, send_prints, read_prints, follow_prints, receive_prints, cover_prints, identity_named};
 
 use codeword::Engine;
-use coverage::{Adding, Coverage};
+use coverage::{AddError, Coverage};
 use job_listing::Listed;
 use printed::Printed;
 use reader::Reading;
@@ -237,7 +237,7 @@ pub fn receive(input: &[u8], out: &mut [u8; 48300]) -> usize
 }
 
 // What the coverage program prints for its last answer and the report then; answers how many bytes they are.
-pub fn cover(answer: Adding, coverage: Coverage, out: &mut [u8; 2210]) -> usize
+pub fn cover(answer: Result<(), AddError>, coverage: Coverage, out: &mut [u8; 2210]) -> usize
     ensures value { result ≡ length (cover_prints answer coverage) }
     ensures out_after { out.new ≡ over out.old (cover_prints answer coverage) }
     ensures prefix_len { IsPrefixLen result out.new }
