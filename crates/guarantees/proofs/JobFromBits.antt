@@ -26,7 +26,7 @@ use Rattle.reader.specs.declared.Reading.TheVariants as reading
 use Rattle.reader.proofs.Laws.{sound_words}
 use Rattle.receiver.specs.Bits.{word_from}
 use Rattle.receiver.specs.Answers.{receive_bits, lines_received, number_of}
-use Rattle.receiver.specs.declared.Receiving.TheVariants.{Declined}
+use Rattle.std.specs.declared.result.Result.TheVariants.{Err}
 use Rattle.receiver.specs.declared.Refusal.TheVariants.{NoRoom}
 use Rattle.receiver.proofs.BitLaws.{word_small}
 use Rattle.receiver.proofs.RoomLaws.{enough}
@@ -161,7 +161,7 @@ module _ (xs : List Sending) (a : AllAllowed xs) (bits : List ℕ) (t : ℕ) (re
         ∙ ap (λ (r : Reading). lines_read r words) (sym words_read)
 
 -- number 10 of one is that of the other
-ten : (b : ℕ) (c : Changes) (r : Reading) → reader.number_of r ≡ 10 → as_received b c r ≡ Declined NoRoom
+ten : (b : ℕ) (c : Changes) (r : Reading) → reader.number_of r ≡ 10 → as_received b c r ≡ Err NoRoom
 ten b c (reading.Read pages lost orphans changed bytes) e = absurd (omega arith)
 ten b c (reading.Declined why) e = refl
 ten b c reading.NoRoom e = refl

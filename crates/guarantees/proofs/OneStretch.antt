@@ -22,9 +22,11 @@ use Rattle.receiver.specs.Bits.{bit_count, word_from}
 use Rattle.receiver.specs.Stretches.{is_batch, hunt_from, batches_from, Stretch, stretch_end, stretch_at, stretches_of, batches_found}
 use Rattle.receiver.specs.Progress.{stretches_from}
 use Rattle.receiver.specs.Answers.{is_cut, heard_on, heard_all, heard_bits, totals_of, reported, receive_bits, lines_received}
-use Rattle.receiver.specs.declared.Receiving.{Receiving}
-use Rattle.receiver.specs.declared.Receiving.TheVariants.{Received, Declined}
+use Rattle.std.specs.declared.result.Result.{Result}
+use Rattle.std.specs.declared.result.Result.TheVariants.{Ok, Err}
+use Rattle.receiver.specs.declared.Refusal.{Refusal}
 use Rattle.receiver.specs.declared.Refusal.TheVariants.{NoRoom}
+use Rattle.receiver.specs.declared.Totals.{Totals}
 use Rattle.receiver.proofs.AddLaws.{then_nothing}
 use Rattle.receiver.proofs.BitLaws.{word_small}
 use Rattle.receiver.proofs.StretchLaws.{batch_is, batch_not, batch_late, hunt_is, hunt_none, batches_is, batches_none, stretches_none, stretches_next, stretches_all}
@@ -37,18 +39,18 @@ abbrev pub recounted : Heard → Changes → Heard
 recounted h c = record { pages = h.pages; lost = h.lost; orphans = h.orphans; changed = c }
 
 -- an answer to reading, with the number of batches and this count of changed bits
-abbrev pub as_received : ℕ → Changes → Reading → Receiving
+abbrev pub as_received : ℕ → Changes → Reading → Result Totals Refusal
 as_received b c (reading.Read pages lost orphans changed bytes) =
-    Received (record { batches = b; pages = pages; lost = lost; orphans = orphans; changed = c; bytes = bytes })
-as_received b c (reading.Declined why) = Declined NoRoom
-as_received b c reading.NoRoom = Declined NoRoom
+    Ok (record { batches = b; pages = pages; lost = lost; orphans = orphans; changed = c; bytes = bytes })
+as_received b c (reading.Declined why) = Err NoRoom
+as_received b c reading.NoRoom = Err NoRoom
 
 module _ (b : ℕ) (h : Heard) (c : Changes) (room : ℕ) where
   -- what the same hearing answers, received and read
   answers_same : reported b (recounted h c) room ≡ as_received b c (printed_into h room)
   answers_same = go (ltb room (length (lines_heard h.pages)))
     where
-      go : (x : Bool) → cond x (Declined NoRoom) (Received (totals_of b (recounted h c)))
+      go : (x : Bool) → cond x (Err NoRoom) (Ok (totals_of b (recounted h c)))
           ≡ as_received b c
           (cond x reading.NoRoom (reading.Read (length h.pages) h.lost h.orphans h.changed (length (lines_heard h.pages))))
       go true = refl
@@ -59,7 +61,7 @@ module _ (b : ℕ) (h : Heard) (c : Changes) (room : ℕ) where
       → lines_received (reported b (recounted h c) room) bits ≡ lines_of (printed_into h room) h
   lines_same bits e = go (ltb room (length (lines_heard h.pages)))
     where
-      go : (x : Bool) → lines_received (cond x (Declined NoRoom) (Received (totals_of b (recounted h c)))) bits
+      go : (x : Bool) → lines_received (cond x (Err NoRoom) (Ok (totals_of b (recounted h c)))) bits
           ≡ lines_of
           (cond x reading.NoRoom (reading.Read (length h.pages) h.lost h.orphans h.changed (length (lines_heard h.pages)))) h
       go true = refl
@@ -140,4 +142,4 @@ module _ {bits : List ℕ} {t : ℕ} {sent : List ℕ} (rec : Recorded bits t se
 
     -- and the same lines are written
     pub written_as : lines_received (receive_bits bits room) bits ≡ lines_of (printed_into h room) h
-    written_as = ap (λ (x : Receiving). lines_received x bits) received ∙ lines_same b h c room bits (all_heard ∙ e)
+    written_as = ap (λ (x : Result Totals Refusal). lines_received x bits) received ∙ lines_same b h c room bits (all_heard ∙ e)

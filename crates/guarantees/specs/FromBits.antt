@@ -1,7 +1,7 @@
 -- R-10, the radio's bits read directly: where a transmission follows whole in a recording, the lines and the counts are those of its
 -- listing. `from_bits` in proofs/FromBits.antt, `job_from_bits`, `sent_then_received` and `program_receives` in proofs/JobFromBits.antt and
 -- `sent_bits` in proofs/SentBits.antt prove it.
-use Rattle.std.specs.Prelude.{◌≡◌, true, List, [], ◌++◌, ℕ, ◌+◌, ◌-◌, ◌*◌, ◌/◌, ◌%◌, ◌^◌, ◌≤◌, ◌<◌, length, get_or, take, drop}
+use Rattle.std.specs.Prelude.{◌≡◌, true, List, [], ◌++◌, ℕ, ◌+◌, ◌-◌, ◌*◌, ◌/◌, ◌%◌, ◌^◌, ◌≤◌, ◌<◌, length, get_or, take, drop, Ok, Err}
 use Rattle.base.specs.Lists.{tab}
 use Rattle.codeword.specs.Code.{obeys, sync}
 use Rattle.codeword.specs.Nearest.{distance}
@@ -21,7 +21,6 @@ use Rattle.reader.specs.declared.Reading.TheVariants as reading
 use Rattle.reader.specs.declared.Verdict.TheVariants.{Sound}
 use Rattle.receiver.specs.Bits.{bit_count, word_from}
 use Rattle.receiver.specs.Answers.{receive_bits, lines_received}
-use Rattle.receiver.specs.declared.Receiving.TheVariants.{Received, Declined}
 use Rattle.receiver.specs.declared.Refusal.TheVariants.{NoRoom}
 use Rattle.program.specs.Prints.{receive_prints}
 use Rattle.guarantees.specs.Transport.{flips_in}
@@ -55,7 +54,7 @@ pub record Clean (l : List ℕ) : Type 0 where
 pub record AsListed (bits : List ℕ) (t : ℕ) (l : List ℕ) (room : ℕ) : Type 0 where
   -- the listing is read: the counts are the same, the batches are its own, and the changed bits those of the words as they were recorded
   pub counts : {pages lost orphans : ℕ} {changed : Changes} {bytes : ℕ} → read_listing l room ≡ reading.Read pages lost orphans changed bytes
-      → receive_bits bits room ≡ Received (record {
+      → receive_bits bits room ≡ Ok (record {
         batches = length (words_of l) / 17;
         pages = pages;
         lost = lost;
@@ -64,7 +63,7 @@ pub record AsListed (bits : List ℕ) (t : ℕ) (l : List ℕ) (room : ℕ) : Ty
         bytes = bytes;
       })
   -- there is no room for its lines: number 10 of both
-  pub no_room : read_listing l room ≡ reading.NoRoom → receive_bits bits room ≡ Declined NoRoom
+  pub no_room : read_listing l room ≡ reading.NoRoom → receive_bits bits room ≡ Err NoRoom
   -- what is written is the same
   pub lines : lines_received (receive_bits bits room) bits ≡ lines_read (read_listing l room) (words_of l)
 
@@ -77,7 +76,7 @@ FromBits = (l : List ℕ) → Clean l → (bits : List ℕ) (t : ℕ) → Record
 pub record PagesReceived (s : Submission) (n : ℕ) (words bits : List ℕ) (room : ℕ) : Type 0 where
   -- there is room for its lines: n pages, nothing lost, no orphans, as many bits changed as were flipped, and its lines in the order of
   -- their slots
-  pub answered : length (lines_in_order s) ≤ room → receive_bits bits room ≡ Received (record {
+  pub answered : length (lines_in_order s) ≤ room → receive_bits bits room ≡ Ok (record {
     batches = batches (placement_of (sendings_of s));
     pages = n;
     lost = 0;
@@ -87,7 +86,7 @@ pub record PagesReceived (s : Submission) (n : ℕ) (words bits : List ℕ) (roo
   })
   pub written : length (lines_in_order s) ≤ room → lines_received (receive_bits bits room) bits ≡ lines_in_order s
   -- there is less: number 10, and nothing is written
-  pub declined : room < length (lines_in_order s) → receive_bits bits room ≡ Declined NoRoom
+  pub declined : room < length (lines_in_order s) → receive_bits bits room ≡ Err NoRoom
   pub untouched : room < length (lines_in_order s) → lines_received (receive_bits bits room) bits ≡ []
 
 -- the words of a recording of what was sent, from position t on, with the preamble as it was sent
