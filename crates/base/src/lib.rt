@@ -8,7 +8,7 @@ ghost use Rattle.base.specs.Lines.{line_end};
 ghost use Rattle.base.specs.Part.{PointsInto};
 
 // The value of an upper-case hexadecimal digit; 16 for any other byte. One arm a digit: a table, where two ranges would be branches
-// that no processor foresees. 16 and no Option: with it `text::char_run` is a jump by each digit, 0.84 of two mispredicted (callgrind).
+// that no processor foresees. 16 and no Option: with one `text::char_run` jumps by a digit, mispredicted at 0.84 of random characters.
 #[tactic(auto, unfolding(crate::specs::Hex::digit_value, crate::specs::Hex::is_hex, crate::specs::Hex::hex_of))]
 pub fn digit_value(b: u8) -> u8
     ensures { result ≡ digit_value b }
