@@ -1,16 +1,18 @@
 -- What the pages that were read from an accepted job, and a plan of its sendings, say of page i. Assumes nothing.
-use Prim.Native.Nat.{ℕ, ◌+◌, ◌%◌, ◌≤◌, ◌<◌}
+use Prim.Native.Nat.{ℕ, ◌+◌, ◌-◌, ◌%◌, ◌≤◌, ◌<◌}
 use mathlib.Core.Path.{◌≡◌, sym, ap, ◌∙◌}
-use mathlib.Core.List.{List}
+use mathlib.Core.List.{List, ◌++◌}
 use native.Mathlib.Numerals.{add-one}
 use native.Mathlib.Omega.{arith}
-use lib.ListN.{length, get_or, length-map}
+use lib.ListN.{length, get_or, take, replicate, length-map, length-append}
+use lib.Seq.{length-take-le}
 use Rattle.std.specs.Prelude.{Ok}
+use Rattle.std.proofs.lemmas.List.{get_or-take}
 use Rattle.job.specs.Line.{kind_sent}
 use Rattle.job.specs.Message.{count_from}
-use Rattle.job.specs.Pages.{no_page, kind_at, digits_at}
+use Rattle.job.specs.Pages.{no_page, pages_of, kind_at, digits_at}
 use Rattle.job.specs.Submission.{Submission}
-use Rattle.job.specs.Job.{job_of, reading_of}
+use Rattle.job.specs.Job.{job_of, reading_of, answer_with, table_of}
 use Rattle.job.specs.declared.Pages.{Pages}
 use Rattle.job.proofs.Accepted.{accepted_job}
 use Rattle.job.proofs.Message.{from_count}
@@ -20,9 +22,23 @@ use Rattle.transmission.specs.Transmitted.{slot_index}
 use Rattle.transmission.specs.Writing.{Planned, with_sending, with_sendings}
 use Rattle.transmission.proofs.Sendings.{sending_at_lem, frame_at, words_at, pages_are, sendings_count, accepted_sendings, sendings_placed, sendings_limits}
 
+-- ---- the pages that were read, at the front of the array
+
+module _ (s : Submission) (n : ℕ) (ok : job_of s ≡ Ok n) {read : Pages} (e : read ≡ reading_of s) where
+  pub front_length : length (take n read.pages) ≡ n
+  unfolding reading_of answer_with table_of
+  front_length =
+      let a = accepted_job s n ok in
+      let rest = replicate (48 - length (pages_of s)) no_page in
+      rw (e, ok) (length-take-le n (pages_of s ++ rest) (omega (arith, a.pages, length-append (pages_of s) rest)))
+
 -- ---- page i as it was read
 
 module _ (s : Submission) (n : ℕ) (ok : job_of s ≡ Ok n) {read : Pages} (e : read ≡ reading_of s) (i : ℕ) (h : i < n) where
+  -- it is the i-th of the front
+  pub front_page : get_or (take n read.pages) i no_page ≡ get_or read.pages i no_page
+  front_page = get_or-take n read.pages i no_page h
+
   -- its sending
   pub page_sending : sending_of s (get_or read.pages i no_page) ≡ sending_at (sendings_of s) i
   page_sending = rw (e, ((accepted_job s n ok).page i h).read) (sym (sending_at_lem s i))

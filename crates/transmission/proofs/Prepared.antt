@@ -1,13 +1,13 @@
 -- What sending computes before it writes: the placement's frames and counts, and the plan. Assumes nothing.
 use Prim.Native.Nat.{ℕ, ◌+◌, ◌*◌, ◌%◌, ◌≤◌, ◌<◌}
-use mathlib.Core.Path.{◌≡◌, ap, ◌∙◌}
+use mathlib.Core.Path.{◌≡◌, sym, ap, ◌∙◌}
 use mathlib.Core.Bool.{true}
 use mathlib.Core.List.{List, ◌++◌}
 use native.Mathlib.Omega.{arith}
 use lib.ListN.{length, get_or, take, drop, replicate, length-map, length-replicate, get_or-append}
-use lib.Seq.{take_at}
+use lib.Seq.{take_at, length-take-le}
 use borrow.Author.Tests.{lt-ltb, le-ltb}
-use Rattle.std.specs.Prelude.{Ok, Err}
+use Rattle.std.specs.Prelude.{Ok, Err, Some}
 use Rattle.base.specs.Lists.{over}
 use Rattle.base.proofs.ListLaws.{over_length}
 use Rattle.job.specs.Submission.{Submission}
@@ -43,17 +43,23 @@ module _ (s : Submission) (n : ℕ) (ok : job_of s ≡ Ok n) {frames groups : Li
   few : length frames ≤ 48
   few = rw f (omega (arith, length-map (sendings_of s) (λ (x : Sending). x.identity % 8), sendings_count s n ok, (accepted_job s n ok).most))
 
-  pub prepared : {b : ℕ} {places : List ℕ} → b ≡ batches_in frames groups 48 → places ≡ over (replicate 48 0) (slots_in frames groups 48) → Prepared s n groups places b
+  -- there is a placement
+  pub placed_is : batches_in frames groups 48 ≡ Some (batches (placement_of (sendings_of s)))
+  placed_is = rw (batches_in_lem frames groups 48 all_sendable few, f, g)
+
+  pub prepared : {b : ℕ} {places : List ℕ} → Some b ≡ batches_in frames groups 48 → places ≡ over (replicate 48 0) (slots_in frames groups 48) → Prepared s n groups places b
   prepared {b} {places} p q =
       let xs = sendings_of s in
       let new = slots (placement_of xs) in
       let all : places ≡ over (replicate 48 0) new = rw (slots_in_lem frames groups 48 all_sendable few, f, g) at q in
       let size : length new ≡ n = slots_length (placement_of xs) ∙ pages_are xs ∙ sendings_count s n ok in
       let most = (accepted_job s n ok).most in
+      let answer : Some b ≡ Some (batches (placement_of xs)) = p ∙ placed_is in
+      let total : b ≡ batches (placement_of xs) = cc in
       let same = sendings_count s n ok in
       record {
         accepted = ok;
-        total = rw (batches_in_lem frames groups 48 all_sendable few, f, g) at p;
+        total = total;
         counted = g;
         placed = λ i h. rw all (get_or-append new _ 0 i (omega arith) ∙ slots_at (placement_of xs) i (omega (arith, pages_are xs)));
         front = rw all (take_at new _ n size);
@@ -85,5 +91,8 @@ module _ {s : Submission} {n : ℕ} {groups places : List ℕ} {b : ℕ} (r : Pr
       let size : length (transmission_of (sendings_of s)) ≡ 18 + 17 * b = rw r.total (transmission_length (codewords_of (sendings_of s)) (placement_of (sendings_of s))) in
       rw (e, size)
 
-  pub slots_over : (old : List ℕ) {new : List ℕ} → new ≡ over old (take n places) → new ≡ over old (slots (placement_of (sendings_of s)))
-  slots_over old e = e ∙ rw r.front
+  -- the slots copied, with what stands behind them
+  pub slots_over : (old : List ℕ) {new : List ℕ} → new ≡ take n places → new ++ drop n old ≡ over old (slots (placement_of (sendings_of s)))
+  slots_over old e =
+      let size : length (slots (placement_of (sendings_of s))) ≡ n = ap length (sym r.front) ∙ length-take-le n places r.long in
+      rw (e, r.front, size)

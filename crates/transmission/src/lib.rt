@@ -77,13 +77,13 @@ pub fn position(r: Result<Sent, SendError>) -> usize
 }
 
 // Word k of a transmission whose slots are all idle.
+#[tactic(auto, unfolding(crate::specs::Writing::blank_at))]
 fn blank_word(k: usize) -> u32
     ensures { result ≡ blank_at k }
 {
     if k < 18 {
-        return PREAMBLE;
-    }
-    if (k - 18) % 17 == 0 {
+        PREAMBLE
+    } else if (k - 18) % 17 == 0 {
         Codeword::SYNC.word()
     } else {
         Codeword::IDLE.word()
@@ -94,11 +94,8 @@ fn blank_word(k: usize) -> u32
 fn write_blank(words: &mut [u32])
     ensures { words.new ≡ tab blank_at (length words.old) }
 {
-    let count = words.len();
-    let mut k = 0;
-    while k < count {
-        words[k] = blank_word(k);
-        k += 1;
+    for (k, word) in words.iter_mut().enumerate() {
+        *word = blank_word(k);
     }
 }
 
@@ -117,12 +114,8 @@ fn write_sending(identity: u32, function: u32, groups: &[u32], slot: u32, words:
     ensures { words.new ≡ with_sending (record { identity = identity; function = function; groups = groups.now }) slot words.old }
 {
     words[slot_index(slot)] = Codeword::address(identity, function).word();
-    let count = groups.len() as u32;
-    let mut j = 0u32;
-    while j < count {
-        let bits = groups[j as usize];
-        words[slot_index(slot + 1 + j)] = Codeword::message(bits).word();
-        j += 1;
+    for (j, bits) in groups.iter().enumerate() {
+        words[slot_index(slot + 1 + j as u32)] = Codeword::message(*bits).word();
     }
 }
 
@@ -187,23 +180,8 @@ fn write_pages<'a>(
     ensures { words.new ≡ transmission_of (sendings_of (with_book job.now book.now)) }
 {
     write_blank(words);
-    let mut i = 0;
-    while i < n {
-        write_page(job, book, read.pages[i], groups[i], places[i], words);
-        i += 1;
-    }
-}
-
-// Numbers over the front of a slice that has room for them.
-fn copy_front(from: &[u32], to: &mut [u32])
-    requires { length from.now ≤ length to.old }
-    ensures { to.new ≡ over to.old from.now }
-{
-    let count = from.len();
-    let mut i = 0;
-    while i < count {
-        to[i] = from[i];
-        i += 1;
+    for (i, page) in read.pages[..n].iter().enumerate() {
+        write_page(job, book, *page, groups[i], places[i], words);
     }
 }
 
@@ -225,22 +203,15 @@ fn send_pages<'a>(
 {
     let mut frames = [0u8; 48];
     let mut groups = [0u32; 48];
-    let mut k = 0;
-    while k < n {
-        let page = read.pages[k];
+    for (k, page) in read.pages[..n].iter().enumerate() {
         frames[k] = (page.identity % 8) as u8;
         groups[k] = job::groups(page.kind, page.length as u16) as u32;
-        k += 1;
     }
     let mut places = [0u32; 48];
-    let batches = placement::place(&frames[..n], &groups[..n], &mut places);
+    let batches = placement::place(&frames[..n], &groups[..n], &mut places).unwrap();
     let count = 18 + 17 * batches;
     let room = count as usize;
-    let short = words.len() < room;
-    if short {
-        return Err(SendError::NoRoom);
-    }
-    if slots.len() < n {
+    if words.len() < room || slots.len() < n {
         return Err(SendError::NoRoom);
     }
     write_pages(
@@ -252,7 +223,7 @@ fn send_pages<'a>(
         &places,
         &mut words[..room],
     );
-    copy_front(&places[..n], slots);
+    slots[..n].copy_from_slice(&places[..n]);
     Ok(Sent {
         batches: batches,
         words: count,

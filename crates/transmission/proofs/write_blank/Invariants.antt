@@ -1,6 +1,5 @@
 -- `transmission::write_blank` meets its contract. The invariant: the first k words are written, and the others are as they came. Assumes nothing.
 use mathlib.Core.Path.{◌≡◌}
-use Prim.Native.Nat.{◌≤◌, ◌-◌}
 use lib.ListN.{length}
 use Rattle.base.specs.Lists.{tab}
 use Rattle.base.proofs.ListLaws.{filled}
@@ -8,7 +7,4 @@ use Rattle.transmission.specs.Writing.{blank_at}
 use Rattle.transmission.proofs.write_blank.Given as goal
 
 abbrev pub invariant-loop-k : goal.invariant-loop-k
-invariant-loop-k l = (l.k ≤ length l.initial.words) × (length l.words ≡ length l.initial.words) × (l.words ≡ filled l.initial.words (tab blank_at (length l.initial.words)) l.k)
-
-abbrev pub decreases-loop-k : goal.decreases-loop-k
-decreases-loop-k l = length l.initial.words - l.k
+invariant-loop-k l = l.words ≡ filled l.initial.words (tab blank_at (length l.initial.words)) l.k
