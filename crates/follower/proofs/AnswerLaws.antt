@@ -10,8 +10,8 @@ use Rattle.job.specs.Line.{is_reserved}
 use Rattle.reader.specs.Reading.{Hearing}
 use Rattle.reader.specs.Lines.{lines_heard}
 use Rattle.reader.specs.declared.Fault.{Fault}
-use Rattle.reader.specs.declared.Verdict.{Verdict}
-use Rattle.reader.specs.declared.Verdict.TheVariants.{Sound, Faulty}
+use Rattle.reader.specs.Answers.{Verdict}
+use Rattle.std.specs.Prelude.{Ok, Err}
 use Rattle.follower.specs.Pages.{pages_for}
 use Rattle.follower.specs.Answers.{lines_into, follow_judged}
 use Rattle.follower.specs.Progress.{Kept}
@@ -47,10 +47,10 @@ module _ (i : ℕ) (v : Verdict) (words : List ℕ) (room : ℕ) where
     is_reserved_lem e = rw (le-ltb 0x1FFFFF i range, e)
 
     module _ (free : is_reserved i ≡ false) where
-      pub is_faulty : {why : Fault} → v ≡ Faulty why → Err (Unread why) ≡ follow_judged i v words room
+      pub is_faulty : {why : Fault} → v ≡ Err why → Err (Unread why) ≡ follow_judged i v words room
       unfolding follow_judged
       is_faulty e = rw (le-ltb 0x1FFFFF i range, free, e)
 
-      pub is_sound : {r : Result Followed FollowError} → v ≡ Sound → r ≡ lines_into (pages_for i words) room → r ≡ follow_judged i v words room
+      pub is_sound : {r : Result Followed FollowError} → v ≡ Ok tt → r ≡ lines_into (pages_for i words) room → r ≡ follow_judged i v words room
       unfolding follow_judged
       is_sound e q = rw (le-ltb 0x1FFFFF i range, free, e) q

@@ -15,9 +15,8 @@ use Rattle.listing.specs.Words.{words_of}
 use Rattle.reader.specs.Reading.{Hearing, heard_in}
 use Rattle.reader.specs.Lines.{line_heard, lines_heard}
 use Rattle.reader.specs.Answers as reading
-use Rattle.reader.specs.Answers.{judge_words, judge_listing, printed_into, answered, read_stretch, read_listing}
-use Rattle.reader.specs.declared.Verdict.{Verdict}
-use Rattle.reader.specs.declared.Verdict.TheVariants.{Sound, Faulty}
+use Rattle.reader.specs.Answers.{Verdict, judge_words, judge_listing, printed_into, answered, read_stretch, read_listing}
+use Rattle.std.specs.Prelude.{Ok, Err}
 use Rattle.reader.proofs.Laws as reader
 use Rattle.follower.specs.Pages.{of_identity, pages_for}
 use Rattle.follower.specs.Answers.{lines_into, unless_faulty, follow_judged, follow_words, follow_listing, bytes_followed, number_of}
@@ -50,8 +49,8 @@ fits words h =
 module _ (i : ℕ) (words : List ℕ) (room : ℕ) (large : 48000 ≤ room) where
   -- by the verdict, where no reading into so much room is number 10
   verdict_fits : (v : Verdict) → (reading.number_of (answered v (heard_in words) 48000) ≡ 10 → ⊥) → number_of (unless_faulty v (lines_into (pages_for i words) room)) ≡ 10 → ⊥
-  verdict_fits (Faulty why) h e = h e
-  verdict_fits Sound h e =
+  verdict_fits (Err why) h e = h e
+  verdict_fits (Ok sound) h e =
       let zero : number_of (lines_into (pages_for i words) room) ≡ 0 = rw (le-ltb room (length (lines_heard (pages_for i words))) (omega (arith, own_fewer i words, fits words h))) in
       omega arith
 
@@ -93,8 +92,8 @@ module _ {r : Followed} where
           → r.bytes ≡ length (lines_heard (pages_for i words))
       go true b x f = let z : ◌≡◌ {A = ℕ} 0 1 = cc in absurd (omega arith)
       go false true x f = let z : ◌≡◌ {A = ℕ} 0 1 = cc in absurd (omega arith)
-      go false false (Faulty why) f = let z : ◌≡◌ {A = ℕ} 0 1 = cc in absurd (omega arith)
-      go false false Sound f = into_size (pages_for i words) room f
+      go false false (Err why) f = let z : ◌≡◌ {A = ℕ} 0 1 = cc in absurd (omega arith)
+      go false false (Ok sound) f = into_size (pages_for i words) room f
 
 -- the lines of a following that isn't declined have as many bytes as it answers
 pub bytes_followed_lem : (i : ℕ) (s : List ℕ) (room : ℕ) {r : Followed} → Ok r ≡ follow_listing i s room → r.bytes ≡ length (lines_heard (pages_for i (words_of s)))

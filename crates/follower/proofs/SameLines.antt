@@ -21,12 +21,12 @@ use Rattle.listing.specs.Words.{words_of}
 use Rattle.reader.specs.Meaning.{meaning}
 use Rattle.reader.specs.Reading.{Hearing, Heard, opened, slot_word, heard_in}
 use Rattle.reader.specs.Lines.{kind_heard, digits_heard, line_heard, lines_heard}
-use Rattle.reader.specs.Answers.{read_words, read_listing, lines_of, lines_read, number_of}
+use Rattle.reader.specs.Answers.{Reading, read_words, read_listing, lines_of, lines_read, number_of}
 use Rattle.reader.specs.declared.Fault.TheVariants.{Malformed, TooMany, Unsynced}
 use Rattle.reader.specs.declared.Meaning.{Meaning}
 use Rattle.reader.specs.declared.Meaning.TheVariants.{Lost, Idle, Address, Message}
-use Rattle.reader.specs.declared.Reading.{Reading}
-use Rattle.reader.specs.declared.Reading.TheVariants.{Read, Declined, NoRoom}
+use Rattle.reader.specs.declared.ReadError.TheVariants.{Fault as Faulty, NoRoom}
+use Rattle.std.specs.Prelude.{Ok, Err}
 use Rattle.reader.proofs.Laws.{addressed}
 use Rattle.follower.specs.Pages.{of_identity, pages_for}
 use Rattle.follower.specs.Following.{followed, opened_by, pages_from, slot_count}
@@ -106,11 +106,11 @@ heard_same i words = rw (follows i words).all (all_same (slot_word words) i (slo
 
 -- a reading that is not declined prints them all
 all_printed : (r : Reading) (h : Heard) → number_of r ≡ 0 → lines_of r h ≡ lines_heard h.pages
-all_printed (Read pages lost orphans changed bytes) h e = refl
-all_printed (Declined (Malformed place)) h e = absurd (omega arith)
-all_printed (Declined (TooMany place)) h e = absurd (omega arith)
-all_printed (Declined (Unsynced place)) h e = absurd (omega arith)
-all_printed NoRoom h e = absurd (omega arith)
+all_printed (Ok read) h e = refl
+all_printed (Err (Faulty (Malformed place))) h e = absurd (omega arith)
+all_printed (Err (Faulty (TooMany place))) h e = absurd (omega arith)
+all_printed (Err (Faulty (Unsynced place))) h e = absurd (omega arith)
+all_printed (Err NoRoom) h e = absurd (omega arith)
 
 read_same : (i : ℕ) (words : List ℕ) (r : Reading) → number_of r ≡ 0 → lines_heard (pages_for i words) ≡ lines_for i (split (lines_read r words))
 read_same i words r e = rw (all_printed r (heard_in words) e) (heard_same i words)

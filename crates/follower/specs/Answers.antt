@@ -5,10 +5,8 @@ use Rattle.listing.specs.Words.{words_of}
 use Rattle.reader.specs.Reading.{Hearing}
 use Rattle.reader.specs.Lines.{lines_heard}
 use Rattle.reader.specs.Answers as reading
-use Rattle.reader.specs.Answers.{judge_words, judge_listing}
-use Rattle.reader.specs.declared.Reading.TheVariants as reading-variants
-use Rattle.reader.specs.declared.Verdict.{Verdict}
-use Rattle.reader.specs.declared.Verdict.TheVariants.{Sound, Faulty}
+use Rattle.reader.specs.Answers.{Verdict, judge_words, judge_listing}
+use Rattle.reader.specs.declared.ReadError.TheVariants as read-error
 use Rattle.follower.specs.Pages.{pages_for}
 use Rattle.follower.specs.declared.Followed.{Followed}
 use Rattle.follower.specs.declared.FollowError.{FollowError}
@@ -20,8 +18,8 @@ lines_into hs room = cond (ltb room (length (lines_heard hs))) (Err NoRoom) (Ok 
 
 -- whatever the reader declines is declined: numbers 21, 23 and 22
 abbrev pub unless_faulty : Verdict → Result Followed FollowError → Result Followed FollowError
-unless_faulty (Faulty why) r = Err (Unread why)
-unless_faulty Sound r = r
+unless_faulty (Err why) r = Err (Unread why)
+unless_faulty (Ok sound) r = r
 
 -- the identity's own refusals come first: number 2 over 1FFFFF, then number 3 where it is reserved
 unfoldable pub follow_judged : ℕ → Verdict → List ℕ → ℕ → Result Followed FollowError
@@ -57,7 +55,7 @@ abbrev pub number_of : Result Followed FollowError → ℕ
 number_of (Ok f) = 0
 number_of (Err IdentityRange) = 2
 number_of (Err IdentityReserved) = 3
-number_of (Err (Unread why)) = reading.number_of (reading-variants.Declined why)
+number_of (Err (Unread why)) = reading.number_of (Err (read-error.Fault why))
 number_of (Err NoRoom) = 10
 
 -- its place: 0, or as the reader has it
@@ -65,5 +63,5 @@ abbrev pub place_of : Result Followed FollowError → ℕ
 place_of (Ok f) = 0
 place_of (Err IdentityRange) = 0
 place_of (Err IdentityReserved) = 0
-place_of (Err (Unread why)) = reading.place_of (reading-variants.Declined why)
+place_of (Err (Unread why)) = reading.place_of (Err (read-error.Fault why))
 place_of (Err NoRoom) = 0

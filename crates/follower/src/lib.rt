@@ -1,7 +1,7 @@
 // One identity followed (document 02, R-4): the page lines that the reader prints for it, without looking at most of the words.
 #![tactic(auto)]
 
-ghost use Rattle.std.specs.Prelude.{◌≡◌, ◌%◌, ◌*◌, ◌≤◌, ◌<◌, length};
+ghost use Rattle.std.specs.Prelude.{◌≡◌, ◌%◌, ◌*◌, ◌≤◌, ◌<◌, length, Ok};
 ghost use Rattle.base.specs.Lists.{over};
 ghost use Rattle.codeword.specs.Nearest.{nearest};
 ghost use Rattle.listing.specs.Words.{words_of};
@@ -10,7 +10,6 @@ ghost use Rattle.reader.specs.Meaning.{meaning};
 ghost use Rattle.reader.specs.Reading.{slot_word};
 ghost use Rattle.reader.specs.Answers.{judge_decoded};
 ghost use Rattle.reader.specs.Readable.{Readable, batches_first, Decoding};
-ghost use Rattle.reader.specs.declared.Verdict.TheVariants.{Sound};
 ghost use Rattle.follower.specs.Pages.{pages_for};
 ghost use Rattle.follower.specs.Following.{slot_count, own_said};
 ghost use Rattle.follower.specs.Answers.{lines_into, follow_judged, follow_words, follow_listing, lines_of, number_of, place_of};
@@ -18,7 +17,7 @@ ghost use Rattle.follower.specs.Progress.{InFrame, Ran, Buffers, Roomy, Printed,
 
 use codeword::Engine;
 use listing::Shape;
-use reader::{Fault, Meaning, Reading, Verdict};
+use reader::{Fault, Meaning, ReadError};
 
 // How many lines there are of an identity, and how many bytes of them are written.
 #[derive(Clone, Copy)]
@@ -222,11 +221,11 @@ fn follow_sound(identity: u32, words: &[u32], out: &mut [u8]) -> Result<Followed
 // Follows the identity by the words' verdict. Its own refusals come first.
 fn follow_judged(
     identity: u32,
-    v: Verdict,
+    v: Result<(), Fault>,
     words: &[u32],
     out: &mut [u8],
 ) -> Result<Followed, FollowError>
-    requires { v ≡ Sound → Readable words.now }
+    requires { v ≡ Ok tt → Readable words.now }
     ensures value { result ≡ follow_judged identity v words.now (length out.old) }
     ensures out_after { out.new ≡ over out.old (lines_of result (pages_for identity words.now)) }
 {
@@ -237,8 +236,8 @@ fn follow_judged(
         return Err(FollowError::IdentityReserved);
     }
     match v {
-        Verdict::Sound => follow_sound(identity, words, out),
-        Verdict::Faulty(why) => Err(FollowError::Unread(why)),
+        Ok(_) => follow_sound(identity, words, out),
+        Err(why) => Err(FollowError::Unread(why)),
     }
 }
 
@@ -289,7 +288,7 @@ pub fn number(r: Result<Followed, FollowError>) -> u32
     match why {
         FollowError::IdentityRange => 2,
         FollowError::IdentityReserved => 3,
-        FollowError::Unread(fault) => reader::number(Reading::Declined(fault)),
+        FollowError::Unread(fault) => reader::number(Err(ReadError::Fault(fault))),
         FollowError::NoRoom => 10,
     }
 }
@@ -302,7 +301,7 @@ pub fn place(r: Result<Followed, FollowError>) -> usize
     match why {
         FollowError::IdentityRange => 0,
         FollowError::IdentityReserved => 0,
-        FollowError::Unread(fault) => reader::place(Reading::Declined(fault)),
+        FollowError::Unread(fault) => reader::place(Err(ReadError::Fault(fault))),
         FollowError::NoRoom => 0,
     }
 }

@@ -10,7 +10,7 @@ use Rattle.listing.specs.Listing.{Listing}
 use Rattle.listing.specs.Answers.{batches_of}
 use Rattle.reader.specs.Readable.{batches_first}
 use Rattle.reader.specs.Answers.{judge_decoded}
-use Rattle.reader.specs.declared.Verdict.{Verdict}
+use Rattle.reader.specs.Answers.{Verdict}
 use Rattle.follower.specs.Pages.{pages_for}
 use Rattle.follower.specs.Answers.{follow_judged, lines_of}
 use Rattle.follower.proofs.follow_decoded.Goals as goal

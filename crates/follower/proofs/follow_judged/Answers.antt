@@ -21,21 +21,21 @@ returns-then-is_reserved c =
     }
 
 pub follow_sound-requires : goal.follow_sound-requires
-follow_sound-requires c = c.requires c.in-Sound.is
+follow_sound-requires c = c.requires c.in-Ok.is
 
-pub returns-in-Sound : goal.returns-in-Sound
-returns-in-Sound c =
+pub returns-in-Ok : goal.returns-in-Ok
+returns-in-Ok c =
     let a = c.args in
     let r = c.follow_sound.ensures in
     record {
-      value = is_sound a.identity a.v a.words.now (length a.out.now) c.if-identity-gt2097151.false (sym c.is_reserved.ensures ∙ c.if-is_reserved.false) c.in-Sound.is r.value;
+      value = is_sound a.identity a.v a.words.now (length a.out.now) c.if-identity-gt2097151.false (sym c.is_reserved.ensures ∙ c.if-is_reserved.false) c.in-Ok.is r.value;
       out_after = r.out_after;
     }
 
-pub returns-in-Faulty : goal.returns-in-Faulty
-returns-in-Faulty c =
+pub returns-in-Err : goal.returns-in-Err
+returns-in-Err c =
     let a = c.args in
     record {
-      value = is_faulty a.identity a.v a.words.now (length a.out.now) c.if-identity-gt2097151.false (sym c.is_reserved.ensures ∙ c.if-is_reserved.false) c.in-Faulty.is;
+      value = is_faulty a.identity a.v a.words.now (length a.out.now) c.if-identity-gt2097151.false (sym c.is_reserved.ensures ∙ c.if-is_reserved.false) c.in-Err.is;
       out_after = refl;
     }

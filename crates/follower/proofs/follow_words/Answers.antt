@@ -4,7 +4,7 @@ use mathlib.Core.List.{List}
 use Prim.Native.Nat.{ℕ}
 use lib.ListN.{length}
 use Rattle.reader.specs.Answers.{judge_words}
-use Rattle.reader.specs.declared.Verdict.{Verdict}
+use Rattle.reader.specs.Answers.{Verdict}
 use Rattle.reader.proofs.Laws.{readable}
 use Rattle.follower.specs.Answers.{follow_judged, follow_words}
 use Rattle.follower.proofs.follow_words.Goals as goal
