@@ -19,7 +19,7 @@ use Rattle.codeword.proofs.NearestLaws.{changed_few}
 use Rattle.listing.specs.Words.{words_of}
 use Rattle.placement.specs.Placement.{frame_of}
 use Rattle.reader.specs.Answers as reading
-use Rattle.reader.specs.Answers.{judge_listing, answered, read_listing}
+use Rattle.reader.specs.Answers.{Verdict, Reading, judge_listing, answered, read_listing}
 use Rattle.reader.specs.Changed.{unless_lost, slot_changed, slots_changed, syncs_changed}
 use Rattle.reader.specs.Lines.{lines_heard}
 use Rattle.reader.specs.Meaning.{meaning}
@@ -29,10 +29,8 @@ use Rattle.reader.specs.declared.Fault.{Fault}
 use Rattle.reader.specs.declared.Fault.TheVariants.{Malformed, TooMany, Unsynced}
 use Rattle.reader.specs.declared.Meaning.{Meaning}
 use Rattle.reader.specs.declared.Meaning.TheVariants.{Lost, Idle, Address, Message}
-use Rattle.reader.specs.declared.Reading.{Reading}
-use Rattle.reader.specs.declared.Reading.TheVariants.{Read, Declined, NoRoom}
-use Rattle.reader.specs.declared.Verdict.{Verdict}
-use Rattle.reader.specs.declared.Verdict.TheVariants.{Sound, Faulty}
+use Rattle.reader.specs.declared.ReadError.TheVariants.{Fault as Faulty, NoRoom}
+use Rattle.std.specs.Prelude.{Ok, Err}
 use Rattle.coverage.specs.Agrees.{pages_of_frame, Agrees, AllAgree, AllRefused}
 use Rattle.coverage.specs.Rates.{in_class, mended_bits}
 use Rattle.coverage.specs.Report.{of_batches, of_fault, of_verdict, coverage_of}
@@ -180,7 +178,7 @@ module _ (words : List ℕ) where
       ∙ sum_pairs (times_in (map page_place pages)) 8
       ∙ times_all page_place 16 page_place_lem pages
 
-  batches_agree : (bytes : ℕ) → Agrees (of_batches words) batches (Read (length pages) (heard_in words).lost (heard_in words).orphans (heard_in words).changed bytes)
+  batches_agree : (bytes : ℕ) → Agrees (of_batches words) batches (Ok (record { pages = length pages; lost = (heard_in words).lost; orphans = (heard_in words).orphans; changed = (heard_in words).changed; bytes = bytes }))
   unfolding heard_stretch
   batches_agree bytes = record {
     lost_words = of_class 3 (omega arith) ∙ sym (read_lost (slot_word words) (16 * batches));
@@ -199,23 +197,23 @@ module _ (words : List ℕ) (room : ℕ) where
 
   -- what is answered where there is room
   abbrev roomy : Reading
-  roomy = Read (length heard.pages) heard.lost heard.orphans heard.changed (length (lines_heard heard.pages))
+  roomy = Ok (record { pages = length heard.pages; lost = heard.lost; orphans = heard.orphans; changed = heard.changed; bytes = length (lines_heard heard.pages) })
 
-  printed_agrees : (b : Bool) → reading.number_of (cond b NoRoom roomy) ≡ 0 → Agrees (of_batches words) (length words / 17) (cond b NoRoom roomy)
+  printed_agrees : (b : Bool) → reading.number_of (cond b (Err NoRoom) roomy) ≡ 0 → Agrees (of_batches words) (length words / 17) (cond b (Err NoRoom) roomy)
   printed_agrees true e = absurd (omega arith)
   printed_agrees false e = batches_agree words (length (lines_heard heard.pages))
 
   verdict_agrees : (v : Verdict) → reading.number_of (answered v heard room) ≡ 0 → Agrees (of_verdict v words) (length words / 17) (answered v heard room)
-  verdict_agrees (Faulty (Malformed line)) e = absurd (omega arith)
-  verdict_agrees (Faulty (TooMany line)) e = absurd (omega arith)
-  verdict_agrees (Faulty (Unsynced batch)) e = absurd (omega arith)
-  verdict_agrees Sound e = printed_agrees (ltb room (length (lines_heard heard.pages))) e
+  verdict_agrees (Err (Malformed line)) e = absurd (omega arith)
+  verdict_agrees (Err (TooMany line)) e = absurd (omega arith)
+  verdict_agrees (Err (Unsynced batch)) e = absurd (omega arith)
+  verdict_agrees (Ok sound) e = printed_agrees (ltb room (length (lines_heard heard.pages))) e
 
-  verdict_refuses : (v : Verdict) (why : Fault) → answered v heard room ≡ Declined why → of_verdict v words ≡ of_fault why
-  verdict_refuses (Faulty w) why e = ap of_fault cc
-  verdict_refuses Sound why e = absurd (go (ltb room (length (lines_heard heard.pages))) e)
+  verdict_refuses : (v : Verdict) (why : Fault) → answered v heard room ≡ Err (Faulty why) → of_verdict v words ≡ of_fault why
+  verdict_refuses (Err w) why e = ap of_fault cc
+  verdict_refuses (Ok sound) why e = absurd (go (ltb room (length (lines_heard heard.pages))) e)
     where
-      go : (b : Bool) → cond b NoRoom roomy ≡ Declined why → ⊥
+      go : (b : Bool) → cond b (Err NoRoom) roomy ≡ Err (Faulty why) → ⊥
       go true q = let z : ◌≡◌ {A = ℕ} 0 1 = cc in omega arith
       go false q = let z : ◌≡◌ {A = ℕ} 0 1 = cc in omega arith
 

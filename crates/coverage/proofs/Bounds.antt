@@ -13,12 +13,11 @@ use Rattle.base.proofs.SearchLaws.{sum_le}
 use Rattle.listing.specs.Words.{words_of}
 use Rattle.placement.specs.Placement.{frame_of}
 use Rattle.reader.specs.Answers as reading
-use Rattle.reader.specs.Answers.{judge_listing}
+use Rattle.reader.specs.Answers.{Verdict, judge_listing}
 use Rattle.reader.specs.Reading.{slot_word, heard_in}
 use Rattle.reader.specs.declared.Fault.{Fault}
-use Rattle.reader.specs.declared.Reading.TheVariants.{Declined}
-use Rattle.reader.specs.declared.Verdict.{Verdict}
-use Rattle.reader.specs.declared.Verdict.TheVariants.{Sound, Faulty}
+use Rattle.reader.specs.declared.ReadError.TheVariants.{Fault as Faulty}
+use Rattle.std.specs.Prelude.{Ok, Err}
 use Rattle.reader.proofs.Laws.{readable}
 use Rattle.coverage.specs.Progress.{UpTo}
 use Rattle.coverage.specs.Report.{of_batches, of_fault, of_verdict, coverage_of}
@@ -42,7 +41,7 @@ none_few m = tally_within m 600 [] (sym (tally_none m)) (omega arith)
 fault_single : (why : Fault) → Single (of_fault why)
 unfolding of_fault
 fault_single why =
-    let places = (reading.number_of (Declined why) - 21) ∷ [] in
+    let places = (reading.number_of (Err (Faulty why)) - 21) ∷ [] in
     record {
       listings = refl;
       refused = tally_within 3 600 places refl (omega arith);
@@ -83,5 +82,5 @@ unfolding coverage_of
 single_few s = go (judge_listing s) refl
   where
     go : (v : Verdict) → judge_listing s ≡ v → Single (of_verdict v (words_of s))
-    go Sound e = batches_single (words_of s) (readable.of_listing s e).few
-    go (Faulty why) e = fault_single why
+    go (Ok sound) e = batches_single (words_of s) (readable.of_listing s e).few
+    go (Err why) e = fault_single why

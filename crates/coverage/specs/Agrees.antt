@@ -1,12 +1,11 @@
 -- The report of one listing and what the reader reports of it (document 02, R-12). `agrees` and `refuses` in proofs/AgreeLaws.antt prove it.
-use Rattle.std.specs.Prelude.{◌≡◌, List, ℕ, ◌+◌, ◌*◌, ◌/◌, ◌<◌, length, get_or}
+use Rattle.std.specs.Prelude.{◌≡◌, List, ℕ, ◌+◌, ◌*◌, ◌/◌, ◌<◌, length, get_or, Err}
 use Rattle.base.specs.Search.{sum}
 use Rattle.listing.specs.Words.{words_of}
 use Rattle.reader.specs.Answers as reading
-use Rattle.reader.specs.Answers.{read_listing, pages_read, lost_read, changed_read}
+use Rattle.reader.specs.Answers.{Reading, read_listing, pages_read, lost_read, changed_read}
 use Rattle.reader.specs.declared.Fault.{Fault}
-use Rattle.reader.specs.declared.Reading.{Reading}
-use Rattle.reader.specs.declared.Reading.TheVariants.{Declined}
+use Rattle.reader.specs.declared.ReadError.TheVariants.{Fault as Faulty}
 use Rattle.coverage.specs.Rates.{in_class, mended_bits}
 use Rattle.coverage.specs.Report.{of_fault, coverage_of}
 use Rattle.coverage.specs.declared.Coverage.{Coverage}
@@ -33,4 +32,4 @@ AllAgree = (s : List ℕ) (room : ℕ) → reading.number_of (read_listing s roo
 
 -- a listing that the reader refuses for what it is, is counted by that number and adds nothing else
 abbrev pub AllRefused : Type 0
-AllRefused = (s : List ℕ) (room : ℕ) (why : Fault) → read_listing s room ≡ Declined why → coverage_of s ≡ of_fault why
+AllRefused = (s : List ℕ) (room : ℕ) (why : Fault) → read_listing s room ≡ Err (Faulty why) → coverage_of s ≡ of_fault why

@@ -5,12 +5,10 @@ use Rattle.base.specs.Leading.{leading}
 use Rattle.base.specs.Lists.{tab}
 use Rattle.listing.specs.Words.{words_of}
 use Rattle.reader.specs.Answers as reading
-use Rattle.reader.specs.Answers.{judge_listing}
+use Rattle.reader.specs.Answers.{Verdict, judge_listing}
 use Rattle.reader.specs.Reading.{heard_in}
 use Rattle.reader.specs.declared.Fault.{Fault}
-use Rattle.reader.specs.declared.Reading.TheVariants.{Declined}
-use Rattle.reader.specs.declared.Verdict.{Verdict}
-use Rattle.reader.specs.declared.Verdict.TheVariants.{Sound, Faulty}
+use Rattle.reader.specs.declared.ReadError.TheVariants.{Fault as Faulty}
 use Rattle.coverage.specs.Tally.{frame_counts, sync_counts, page_counts, refused_counts}
 use Rattle.coverage.specs.declared.AddError.{AddError}
 use Rattle.coverage.specs.declared.AddError.TheVariants.{OverLimit, Full}
@@ -51,7 +49,7 @@ of_batches words = record {
 unfoldable pub of_fault : Fault → Coverage
 of_fault why = record {
   listings = 1;
-  refused = refused_counts (reading.number_of (Declined why));
+  refused = refused_counts (reading.number_of (Err (Faulty why)));
   frames = replicate 32 0;
   sync = replicate 3 0;
   pages = replicate 16 0;
@@ -59,8 +57,8 @@ of_fault why = record {
 
 -- by the reader's verdict
 abbrev pub of_verdict : Verdict → List ℕ → Coverage
-of_verdict Sound words = of_batches words
-of_verdict (Faulty why) words = of_fault why
+of_verdict (Ok sound) words = of_batches words
+of_verdict (Err why) words = of_fault why
 
 -- the report of a single listing
 unfoldable pub coverage_of : List ℕ → Coverage

@@ -2,12 +2,11 @@
 // lost ones and the pages, whole and cut, and the listings that are refused.
 #![tactic(auto)]
 
-ghost use Rattle.std.specs.Prelude.{◌≡◌, false, ◌+◌, ◌*◌, ◌/◌, ◌≤◌, ◌<◌, length, replicate, IfSome};
+ghost use Rattle.std.specs.Prelude.{◌≡◌, false, ◌+◌, ◌*◌, ◌/◌, ◌≤◌, ◌<◌, length, replicate, IfSome, Ok};
 ghost use Rattle.codeword.specs.Answer.{changed};
 ghost use Rattle.reader.specs.Answers.{judge_decoded};
 ghost use Rattle.reader.specs.Reading.{heard_in};
 ghost use Rattle.reader.specs.Readable.{Readable, batches_first, Decoding};
-ghost use Rattle.reader.specs.declared.Verdict.TheVariants.{Sound};
 ghost use Rattle.coverage.specs.Tally.{class_by, frame_counts, sync_counts, page_counts};
 ghost use Rattle.coverage.specs.Report.{no_coverage, sums, joined, of_batches, of_fault, of_verdict, coverage_of, any_over, is_over, added_to, number_of, place_of};
 ghost use Rattle.coverage.specs.Rates.{per_million, rate_of};
@@ -15,7 +14,7 @@ ghost use Rattle.coverage.specs.Progress.{slot_read, UpTo, closed_counts, heard_
 
 use codeword::Corrected;
 use listing::Listing;
-use reader::{Fault, Meaning, Verdict};
+use reader::{Fault, Meaning};
 
 // What listings add up to. Every pattern of its 220 bytes is a value.
 #[repr(C)]
@@ -212,13 +211,13 @@ fn cover_fault(why: Fault) -> Coverage
 }
 
 // The report of words by their verdict.
-fn cover_judged(v: Verdict, words: &[u32]) -> Coverage
-    requires { v ≡ Sound → Readable words.now }
+fn cover_judged(v: Result<(), Fault>, words: &[u32]) -> Coverage
+    requires { v ≡ Ok tt → Readable words.now }
     ensures { result ≡ of_verdict v words.now }
 {
     match v {
-        Verdict::Sound => cover_batches(words),
-        Verdict::Faulty(why) => cover_fault(why),
+        Ok(_) => cover_batches(words),
+        Err(why) => cover_fault(why),
     }
 }
 

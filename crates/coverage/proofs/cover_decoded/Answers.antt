@@ -7,7 +7,7 @@ use lib.ListN.{length, take}
 use lib.Seq.{length-take-le}
 use Rattle.reader.specs.Readable.{batches_first}
 use Rattle.reader.specs.Answers.{judge_decoded}
-use Rattle.reader.specs.declared.Verdict.{Verdict}
+use Rattle.reader.specs.Answers.{Verdict}
 use Rattle.coverage.specs.Report.{of_verdict}
 use Rattle.coverage.proofs.cover_decoded.Goals.{After-batch_count-n}
 use Rattle.coverage.proofs.cover_decoded.Goals as goal
