@@ -11,10 +11,9 @@ use Rattle.codeword.specs.Nearest.{nearest}
 use Rattle.reader.specs.Meaning.{is_sync}
 use Rattle.reader.specs.Reading.{Heard, heard_stretch}
 use Rattle.reader.specs.Lines.{lines_heard}
-use Rattle.reader.specs.Answers.{unsynced, read_stretch, lines_of, pages_read, lost_read, orphans_read, changed_read, bytes_read}
-use Rattle.reader.specs.declared.Changes.{Changes}
-use Rattle.reader.specs.declared.Reading.{Reading}
-use Rattle.reader.specs.declared.Reading.TheVariants.{Read}
+use Rattle.reader.specs.Answers.{Reading, unsynced, read_stretch, lines_of, pages_read, lost_read, orphans_read, changed_read, bytes_read}
+use Rattle.reader.specs.declared.Read.{Read}
+use Rattle.std.specs.Prelude.{Ok}
 use Rattle.reader.proofs.Laws.{sound_words}
 use Rattle.receiver.specs.Bits.{word_from}
 use Rattle.receiver.specs.Stretches.{Stretch, batches_from, stretch_at, words_on}
@@ -23,6 +22,10 @@ use Rattle.receiver.specs.Progress.{Ahead}
 use Rattle.receiver.specs.declared.Totals.{Totals}
 use Rattle.receiver.proofs.AddLaws.{most_heard}
 use Rattle.receiver.proofs.StretchLaws.{batch_synced, batches_are}
+
+-- what reading answers of what was heard, where there is room
+abbrev read_of : Heard → Read
+read_of h = record { pages = length h.pages; lost = h.lost; orphans = h.orphans; changed = h.changed; bytes = length (lines_heard h.pages) }
 
 module _ (s : List ℕ) (p : ℕ) where
   abbrev r : Stretch
@@ -42,7 +45,7 @@ module _ (s : List ℕ) (p : ℕ) where
     abbrev h : Heard
     h = heard_on s r
 
-    stretch_read : read_stretch (is_cut s r) (words_on s r) room ≡ Read (length h.pages) h.lost h.orphans h.changed (length (lines_heard h.pages))
+    stretch_read : read_stretch (is_cut s r) (words_on s r) room ≡ Ok (read_of h)
     unfolding read_stretch
     stretch_read =
         let c = a.count in
@@ -52,11 +55,11 @@ module _ (s : List ℕ) (p : ℕ) where
 
     -- whatever is lent on as its words, and as the test that cuts, where these are the same
     module _ {x : Reading} {cut : Bool} {words : List ℕ} (e : x ≡ read_stretch cut words room) (c : cut ≡ is_cut s r) (w : words ≡ words_on s r) where
-      pub stretch_answer : x ≡ Read (length h.pages) h.lost h.orphans h.changed (length (lines_heard h.pages))
+      pub stretch_answer : x ≡ Ok (read_of h)
       stretch_answer = e ∙ ap₂ (λ (t : Bool) (l : List ℕ). read_stretch t l room) c w ∙ stretch_read
 
-      pub stretch_totals : {pages lost orphans : ℕ} {changed : Changes} {bytes : ℕ} → x ≡ Read pages lost orphans changed bytes
-          → ◌≡◌ {A = Totals} (record { batches = b; pages = pages; lost = lost; orphans = orphans; changed = changed; bytes = bytes }) (totals_of b h)
+      pub stretch_totals : {read : Read} → x ≡ Ok read
+          → ◌≡◌ {A = Totals} (record { batches = b; pages = read.pages; lost = read.lost; orphans = read.orphans; changed = read.changed; bytes = read.bytes }) (totals_of b h)
       stretch_totals f =
           ap (λ (y : Reading). record { batches = b; pages = pages_read y; lost = lost_read y; orphans = orphans_read y; changed = changed_read y; bytes = bytes_read y })
           (sym f ∙ stretch_answer)

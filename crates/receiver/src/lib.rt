@@ -10,7 +10,7 @@ ghost use Rattle.receiver.specs.Answers.{heard_on, nothing, totals_of, receive_b
 ghost use Rattle.receiver.specs.Progress.{Ahead, Addable, added};
 
 use codeword::Engine;
-use reader::{Changes, Reading};
+use reader::Changes;
 
 // Why a recording is declined.
 #[derive(Clone, Copy)]
@@ -149,23 +149,16 @@ fn read_stretch(bits: &[u8], p: usize, b: usize, words: &mut [u32], out: &mut [u
     let n = 17 * b;
     fill_words(bits, p, &mut words[..n]);
     let cut = p + 544 * b + 544 <= 8 * bits.len();
-    let Reading::Read {
-        pages,
-        lost,
-        orphans,
-        changed,
-        bytes,
-    } = reader::read_stretch(Engine::Fast, &words[..n], cut, out)
-    else {
+    let Ok(read) = reader::read_stretch(Engine::Fast, &words[..n], cut, out) else {
         return NOTHING;
     };
     Totals {
         batches: b as u32,
-        pages,
-        lost,
-        orphans,
-        changed,
-        bytes,
+        pages: read.pages,
+        lost: read.lost,
+        orphans: read.orphans,
+        changed: read.changed,
+        bytes: read.bytes,
     }
 }
 

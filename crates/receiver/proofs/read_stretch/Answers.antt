@@ -6,10 +6,8 @@ use native.Mathlib.Omega.{arith}
 use lib.ListN.{length, take, drop}
 use lib.Dec.{leb}
 use lib.Seq.{length-take-le, take_at}
-use denote.Enum.Declared.{tag_of}
 use Rattle.base.specs.Lists.{over, tab}
 use Rattle.base.proofs.ListLaws.{tab-length}
-use Rattle.reader.specs.contracts.Reading.{the_type}
 use Rattle.receiver.specs.Bits.{bit_count, word_from}
 use Rattle.receiver.specs.Stretches.{stretch_at, words_on}
 use Rattle.receiver.specs.Answers.{is_cut}
@@ -70,13 +68,12 @@ returns-in_default c =
     let w = (goal.at.returns-in_default c).After-fill_words in
     let a = c.args in
     let e = stretch_answer a.bits.now a.p a.b (length a.words.now) (length a.out.now) c.requires c.read_stretch.ensures.value (cut_is w) (words_are w) in
-    let tag : tag_of the_type c.read_stretch.result ≡ 0 = ap (tag_of the_type) e in
-    absurd (omega arith)
+    absurd (c.in_default.not-Ok _ e)
 
 pub returns : goal.returns
 returns c =
     let w = (goal.at.returns c).After-fill_words in
     let a = c.args in record {
-      value = stretch_totals a.bits.now a.p a.b (length a.words.now) (length a.out.now) c.requires c.read_stretch.ensures.value (cut_is w) (words_are w) c.in-Read.is;
+      value = stretch_totals a.bits.now a.p a.b (length a.words.now) (length a.out.now) c.requires c.read_stretch.ensures.value (cut_is w) (words_are w) c.in-Ok.is;
       out_after = c.read_stretch.ensures.out_after ∙ ap (over a.out.now) (stretch_lines a.bits.now a.p a.b (length a.words.now) (length a.out.now) c.requires c.read_stretch.ensures.value (cut_is w) (words_are w));
     }
