@@ -9,15 +9,13 @@ use lib.Seq.{take_all, take_at}
 use lib.Dec.{ltb}
 use borrow.Author.Tests.{le-ltb}
 use Rattle.job.specs.Refusal.{JobAnswer}
-use Rattle.std.specs.Prelude.{Ok, Err}
+use Rattle.std.specs.Prelude.{Ok, Err, Option, Some, None}
 use Rattle.base.specs.Lists.{over}
 use Rattle.job.specs.Submission.{Submission}
 use Rattle.job.specs.Job.{job_of}
 use Rattle.job.specs.declared.Refused.{Refused}
 use Rattle.listing.specs.Text.{text_of}
 use Rattle.listing.specs.Writing.{writing_of, bytes_written}
-use Rattle.listing.specs.declared.Writing.{Writing}
-use Rattle.listing.specs.declared.Writing.TheVariants as writing
 use Rattle.listing.proofs.TextLaws.{text_length}
 use Rattle.placement.specs.Placement.{batches}
 use Rattle.transmission.specs.Sending.{sendings_of, placement_of}
@@ -34,14 +32,14 @@ use Rattle.job_listing.specs.declared.Listed.TheVariants.{Written, Declined, NoR
 
 -- ---- writing words as text
 
-abbrev pub as_listed : Writing → Listed
-as_listed (writing.Bytes n) = Written n
-as_listed writing.NoRoom = NoRoom
+abbrev pub as_listed : Option ℕ → Listed
+as_listed (Some n) = Written n
+as_listed None = NoRoom
 
 pub written_is : (ws : List ℕ) (room : ℕ) → as_listed (writing_of ws room) ≡ written_into room (text_of ws)
 written_is ws room = rw (text_length 0 ws) (go (ltb room (9 * length ws)))
   where
-    go : (b : Bool) → as_listed (cond b writing.NoRoom (writing.Bytes (9 * length ws))) ≡ cond b NoRoom (Written (9 * length ws))
+    go : (b : Bool) → as_listed (cond b None (Some (9 * length ws))) ≡ cond b NoRoom (Written (9 * length ws))
     go true = refl
     go false = refl
 
@@ -49,7 +47,7 @@ written_is ws room = rw (text_length 0 ws) (go (ltb room (9 * length ws)))
 pub front_written : (ws : List ℕ) (room : ℕ) → take (bytes_written (writing_of ws room)) (text_of ws) ≡ bytes_listed (as_listed (writing_of ws room)) (text_of ws)
 front_written ws room = go (ltb room (9 * length ws))
   where
-    go : (b : Bool) → take (bytes_written (cond b writing.NoRoom (writing.Bytes (9 * length ws)))) (text_of ws) ≡ bytes_listed (as_listed (cond b writing.NoRoom (writing.Bytes (9 * length ws)))) (text_of ws)
+    go : (b : Bool) → take (bytes_written (cond b None (Some (9 * length ws)))) (text_of ws) ≡ bytes_listed (as_listed (cond b None (Some (9 * length ws)))) (text_of ws)
     go true = refl
     go false = take_all (9 * length ws) (text_of ws) (omega (arith, text_length 0 ws))
 

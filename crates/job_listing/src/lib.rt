@@ -8,7 +8,6 @@ ghost use Rattle.listing.specs.Text.{text_of};
 ghost use Rattle.job_listing.specs.Listed.{listing_text, listed_of, written_into, bytes_listed, number_of, place_of, position_of};
 
 use job::{Refusal, Refused};
-use listing::Writing;
 use transmission::SendError;
 
 // What listing a job answers.
@@ -95,9 +94,8 @@ fn write_front(words: &[u32], n: usize, out: &mut [u8]) -> Listed
     ensures value { result ≡ written_into (length out.old) (text_of (take n words.now)) }
     ensures out_after { out.new ≡ over out.old (bytes_listed result (text_of (take n words.now))) }
 {
-    let answer = listing::write(&words[..n], out);
-    match answer {
-        Writing::Bytes(bytes) => Listed::Written(bytes),
-        Writing::NoRoom => Listed::NoRoom,
+    match listing::write(&words[..n], out) {
+        Some(bytes) => Listed::Written(bytes),
+        None => Listed::NoRoom,
     }
 }
