@@ -13,7 +13,7 @@ ghost use Rattle.coverage.specs.Rates.{per_million, rate_of};
 ghost use Rattle.coverage.specs.Progress.{slot_read, UpTo, closed_counts, heard_counts, open_after};
 
 use codeword::Corrected;
-use listing::Listing;
+use listing::Shape;
 use reader::{Fault, Meaning};
 
 // What listings add up to. Every pattern of its 220 bytes is a value.
@@ -222,7 +222,7 @@ fn cover_judged(v: Result<(), Fault>, words: &[u32]) -> Coverage
 }
 
 // The report of what `listing::decode` answers: of the words that it returns those of the batches stand first.
-fn cover_decoded(l: Listing, words: &[u32]) -> Coverage
+fn cover_decoded(l: Result<Shape, listing::Fault>, words: &[u32]) -> Coverage
     requires { Decoding l words.now }
     ensures { result ≡ of_verdict (judge_decoded l (batches_first l words.now)) (batches_first l words.now) }
 {
