@@ -7,6 +7,7 @@ use native.Mathlib.Omega.{arith}
 use lib.Dec.{T}
 use lib.ListN.{length, get_or, take, drop, length-take}
 use Rattle.base.proofs.HexLaws.{number_fits}
+use Rattle.std.specs.Prelude.{Ok, Err}
 use Rattle.base.proofs.ListLaws.{tab-length, tab-at}
 use Rattle.base.proofs.SearchLaws.{least_is}
 use Rattle.codeword.specs.CorrectionTheorem.{Obeying}
@@ -14,10 +15,8 @@ use Rattle.codeword.specs.Nearest.{nearest}
 use Rattle.codeword.proofs.CorrectionTheorem.{correction_theorem}
 use Rattle.codeword.proofs.NearestLaws.{distance_self}
 use Rattle.listing.specs.Formed.{Formed}
-use Rattle.listing.specs.Listing.{listing_of}
+use Rattle.listing.specs.Listing.{listing_of, Listing, well_formed}
 use Rattle.listing.specs.Words.{words_of}
-use Rattle.listing.specs.declared.Listing.{Listing}
-use Rattle.listing.specs.declared.Listing.TheVariants.{WellFormed, Declined}
 use Rattle.listing.proofs.Indexed as listing
 use Rattle.listing.proofs.Indexed.{words_indexed, formed}
 use Rattle.reader.specs.Meaning.{meaning}
@@ -38,7 +37,7 @@ use Rattle.guarantees.proofs.OneStretch.{recounted, as_received, received_as, wr
 record Form (l : List ℕ) : Type 0 where
   lines : ℕ
   batches : ℕ
-  are : listing_of l ≡ WellFormed lines batches
+  are : listing_of l ≡ well_formed lines batches
 
 -- there are such numbers
 form_of : (l : List ℕ) → judge_listing l ≡ Sound → Form l
@@ -46,8 +45,8 @@ unfolding judge_listing
 form_of l = go (listing_of l) refl
   where
     go : (x : Listing) → listing_of l ≡ x → judge_decoded x (words_of l) ≡ Sound → Form l
-    go (WellFormed p b) e f = record { lines = p; batches = b; are = e }
-    go (Declined why) e f = let z : ◌≡◌ {A = ℕ} 0 1 = cc in absurd (omega arith)
+    go (Ok shape) e f = record { lines = shape.preamble; batches = shape.batches; are = e }
+    go (Err why) e f = let z : ◌≡◌ {A = ℕ} 0 1 = cc in absurd (omega arith)
 
 -- each of its words has eight digits
 word_fits : (l : List ℕ) (f : Form l) (k : ℕ) → k < length (words_of l) → get_or (words_of l) k 0 < 2 ^ 32
