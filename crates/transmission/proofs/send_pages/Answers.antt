@@ -58,7 +58,7 @@ ready c =
     (sym c.unwrap-batches.ensures ∙ c.place.ensures.value) c.place.ensures.out_after
 
 pub shared_ref_as_front-page-items : goal.shared_ref_as_front-page-items
-shared_ref_as_front-page-items c = (accepted_job (with_book c.args.job.now c.args.book.now) c.args.n c.requires.book_value).most
+shared_ref_as_front-page-items c = omega (arith, (accepted_job (with_book c.args.job.now c.args.book.now) c.args.n c.requires.book_value).most)
 
 pub overflow_cast-page : goal.overflow_cast-page
 overflow_cast-page c =

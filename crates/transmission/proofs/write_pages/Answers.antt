@@ -35,7 +35,7 @@ sent-as c =
     rw page (page_sending s c.args.n c.requires.book_value c.requires.read_value c.loop-i.i (below c))
 
 pub shared_ref_as_front-page-items : goal.shared_ref_as_front-page-items
-shared_ref_as_front-page-items c = (accepted_job (with_book c.args.job.now c.args.book.now) c.args.n c.requires.book_value).most
+shared_ref_as_front-page-items c = omega (arith, (accepted_job (with_book c.args.job.now c.args.book.now) c.args.n c.requires.book_value).most)
 
 pub loop-i-init : goal.loop-i-init
 unfolding with_sendings
