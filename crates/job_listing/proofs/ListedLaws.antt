@@ -9,7 +9,7 @@ use lib.Seq.{take_all, take_at}
 use lib.Dec.{ltb}
 use borrow.Author.Tests.{le-ltb}
 use Rattle.job.specs.Refusal.{JobAnswer}
-use Rattle.std.specs.Prelude.{Ok, Err, Option, Some, None}
+use Rattle.std.specs.Prelude.{Option, Some, None, Ok, Err, ok_or}
 use Rattle.base.specs.Lists.{over}
 use Rattle.job.specs.Submission.{Submission}
 use Rattle.job.specs.Job.{job_of}
@@ -20,26 +20,25 @@ use Rattle.listing.proofs.TextLaws.{text_length}
 use Rattle.placement.specs.Placement.{batches}
 use Rattle.transmission.specs.Sending.{sendings_of, placement_of}
 use Rattle.transmission.specs.Transmission.{word_count, transmission_of}
-use Rattle.transmission.specs.Report.{Report, answered, report_of}
-use Rattle.transmission.specs.declared.SendError.{SendError}
+use Rattle.transmission.specs.Report.{answered, report_of}
 use Rattle.transmission.specs.Report as report
 use Rattle.transmission.specs.declared.SendError.TheVariants as error
 use Rattle.transmission.proofs.Sendings.{accepted_sendings, sendings_limits}
 use Rattle.transmission.proofs.TransmissionLaws.{transmission_length}
-use Rattle.job_listing.specs.Listed.{listing_text, written_into, listed_of, bytes_listed}
-use Rattle.job_listing.specs.declared.Listed.{Listed}
-use Rattle.job_listing.specs.declared.Listed.TheVariants.{Written, Declined, NoRoom}
+use Rattle.job_listing.specs.Listed.{Listed, error_of, listing_text, written_into, listed_of, bytes_listed}
+use Rattle.job_listing.specs.declared.ListError.TheVariants.{Job, NoRoom}
+use Rattle.transmission.specs.declared.SendError.{SendError}
+use Rattle.transmission.specs.declared.Sent.{Sent}
 
 -- ---- writing words as text
 
 abbrev pub as_listed : Option ℕ → Listed
-as_listed (Some n) = Written n
-as_listed None = NoRoom
+as_listed o = ok_or o NoRoom
 
 pub written_is : (ws : List ℕ) (room : ℕ) → as_listed (writing_of ws room) ≡ written_into room (text_of ws)
 written_is ws room = rw (text_length 0 ws) (go (ltb room (9 * length ws)))
   where
-    go : (b : Bool) → as_listed (cond b None (Some (9 * length ws))) ≡ cond b NoRoom (Written (9 * length ws))
+    go : (b : Bool) → as_listed (cond b None (Some (9 * length ws))) ≡ cond b (Err NoRoom) (Ok (9 * length ws))
     go true = refl
     go false = refl
 
@@ -58,6 +57,9 @@ pub record Sends (s : Submission) (m : ℕ) : Type 0 where
   pub size : m ≡ length (transmission_of (sendings_of s))
   pub fits : m ≤ 5118
 
+sent_ok : {x y : Sent} → ◌≡◌ {A = report.Report} (Ok x) (Ok y) → x ≡ y
+sent_ok e = cc
+
 module _ (s : Submission) where
   enough : (n : ℕ) → job_of s ≡ Ok n → (ltb 5118 (word_count (placement_of (sendings_of s))) ≡ false) × (ltb 48 (length (sendings_of s)) ≡ false)
   enough n e =
@@ -70,12 +72,12 @@ module _ (s : Submission) where
   sent_by (Ok n) e b m q =
       let h = enough n e in
       let r : report.sent (batches (placement_of (sendings_of s))) (word_count (placement_of (sendings_of s))) ≡ report.sent b m = rw (h.0, h.1) at q in
-      let m_is : word_count (placement_of (sendings_of s)) ≡ m = ap report.words_of r in
+      let m_is : word_count (placement_of (sendings_of s)) ≡ m = ap (λ (x : Sent). x.words) (sent_ok r) in
       record { answer = λ room. rw e; size = sym m_is ∙ sym (transmission_length _ _); fits = omega (arith, (sendings_limits (accepted_sendings s n e)).most) }
   sent_by (Err r) e b m q = let z : ◌≡◌ {A = ℕ} 0 1 = cc in absurd (omega arith)
 
   declined_by : (a : JobAnswer) → job_of s ≡ a → (w : Refused) → answered a (sendings_of s) 5118 48 ≡ Err (error.Job w)
-      → (room : ℕ) → listed_of s room ≡ Declined w.why w.place
+      → (room : ℕ) → listed_of s room ≡ Err (Job w)
   unfolding listed_of
   declined_by (Ok n) e w q room =
       let h = enough n e in
@@ -99,13 +101,18 @@ module _ (s : Submission) where
   unfolding report_of
   sent b m q = sent_by (job_of s) refl b m (sym q)
 
-  pub declined : (w : Refused) {r : Report} {e : SendError} → r ≡ Err e → e ≡ error.Job w → r ≡ report_of s 5118 48 → (room : ℕ) → listed_of s room ≡ Declined w.why w.place
+  pub declined : (w : Refused) → Err (error.Job w) ≡ report_of s 5118 48 → (room : ℕ) → listed_of s room ≡ Err (Job w)
   unfolding report_of
-  declined w is job q = declined_by (job_of s) refl w (sym q ∙ is ∙ ap {B = Report} Err job)
+  declined w q = declined_by (job_of s) refl w (sym q)
 
-  pub roomy : {r : Report} {e : SendError} → r ≡ Err e → e ≡ error.NoRoom → r ≡ report_of s 5118 48 → ⊥
+  pub roomy : Err error.NoRoom ≡ report_of s 5118 48 → ⊥
   unfolding report_of
-  roomy is room q = not_short (job_of s) refl (sym q ∙ is ∙ ap {B = Report} Err room)
+  roomy q = not_short (job_of s) refl (sym q)
+
+  -- and where it is not, the job's refusal
+  pub unsent : (e : SendError) → Err e ≡ report_of s 5118 48 → (room : ℕ) → Err (error_of e) ≡ listed_of s room
+  unsent (error.Job w) q room = sym (declined w q room)
+  unsent error.NoRoom q room = absurd (roomy q)
 
 -- the words that were sent, out of the slice that they stand in
 pub front : (s : Submission) (w : List ℕ) (m : ℕ) → m ≡ length (transmission_of (sendings_of s)) → take m (over w (transmission_of (sendings_of s))) ≡ transmission_of (sendings_of s)

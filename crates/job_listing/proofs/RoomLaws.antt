@@ -10,21 +10,21 @@ use borrow.Author.Tests.{ltb-false, le-ltb}
 use Rattle.std.specs.Prelude.{Ok, Err}
 use Rattle.job.specs.Submission.{Submission}
 use Rattle.job.specs.Job.{job_of}
-use Rattle.job.specs.Refusal.{job_number, job_place, job_position, JobAnswer, refused}
+use Rattle.job.specs.Refusal.{job_number, job_place, job_position, JobAnswer}
 use Rattle.listing.proofs.TextLaws.{text_length}
 use Rattle.transmission.specs.Sending.{sendings_of, placement_of}
 use Rattle.transmission.specs.Transmission.{codewords_of, transmission_of}
 use Rattle.transmission.proofs.Sendings.{accepted_sendings, sendings_limits}
 use Rattle.transmission.proofs.TransmissionLaws.{transmission_length}
-use Rattle.job_listing.specs.Listed.{listing_text, answered, listed_of, number_of, place_of, position_of}
+use Rattle.job_listing.specs.Listed.{Listed, listing_text, answered, listed_of, number_of, place_of, position_of}
 use Rattle.job_listing.specs.Enough.{Enough}
-use Rattle.job_listing.specs.declared.Listed.TheVariants.{Written, NoRoom}
+use Rattle.job_listing.specs.declared.ListError.TheVariants.{NoRoom}
 
-written_size : (short : Bool) (size n : ℕ) → cond short NoRoom (Written size) ≡ Written n → (short ≡ false) × (size ≡ n)
+written_size : (short : Bool) (size n : ℕ) → ◌≡◌ {A = Listed} (cond short (Err NoRoom) (Ok size)) (Ok n) → (short ≡ false) × (size ≡ n)
 written_size true size n e = let z : ◌≡◌ {A = ℕ} 0 1 = cc in absurd (omega arith)
 written_size false size n e = (refl, cc)
 
-by_answer : (a : JobAnswer) (room : ℕ) (text : List ℕ) (n : ℕ) → answered a room text ≡ Written n
+by_answer : (a : JobAnswer) (room : ℕ) (text : List ℕ) (n : ℕ) → answered a room text ≡ Ok n
     → (pages : ℕ) × (a ≡ Ok pages) × (length text ≡ n) × (n ≤ room)
 by_answer (Ok pages) room text n e =
     let h = written_size (ltb room (length text)) (length text) n e in
@@ -32,7 +32,7 @@ by_answer (Ok pages) room text n e =
 by_answer (Err r) room text n e = let z : ◌≡◌ {A = ℕ} 0 1 = cc in absurd (omega arith)
 
 -- where n bytes are written, the job is accepted, its listing has n bytes, and there is room for them
-pub listed_written : (s : Submission) (room n : ℕ) → listed_of s room ≡ Written n → (pages : ℕ) × (job_of s ≡ Ok pages) × (length (listing_text s) ≡ n) × (n ≤ room)
+pub listed_written : (s : Submission) (room n : ℕ) → listed_of s room ≡ Ok n → (pages : ℕ) × (job_of s ≡ Ok pages) × (length (listing_text s) ≡ n) × (n ≤ room)
 unfolding listed_of
 listed_written s room n e = by_answer (job_of s) room (listing_text s) n e
 
