@@ -1,13 +1,11 @@
 -- The library's answers as C has them: numbers only. A number is that of document 01's table, 0 where nothing is declined; a place is its
 -- place, and a position its second place (request R-1).
-use Rattle.std.specs.Prelude.{ℕ, Result}
+use Rattle.std.specs.Prelude.{ℕ, Result, Ok, Err}
 use Rattle.codeword.specs.Answer as correction
 use Rattle.codeword.specs.declared.Correction.{Correction}
-use Rattle.job.specs.Refusal.{job_number, job_place, job_position}
-use Rattle.job.specs.declared.JobAnswer.{JobAnswer}
-use Rattle.job.specs.declared.JobAnswer.TheVariants.{Accepted, Refused}
+use Rattle.job.specs.Refusal.{job_number, job_place, job_position, JobAnswer, refused}
 use Rattle.transmission.specs.Report as report
-use Rattle.transmission.specs.declared.Report.{Report}
+use Rattle.transmission.specs.Report.{Report}
 use Rattle.job_listing.specs.Listed as listed
 use Rattle.job_listing.specs.declared.Listed.{Listed}
 use Rattle.reader.specs.Answers as reading
@@ -99,8 +97,8 @@ refusal_for a = record { place = job_place a; position = job_position a; number 
 
 -- the caller's state once a job is started: the job's own, or as it was where the job is declined
 abbrev pub state_for : JobAnswer → Sender → Sender → Sender
-state_for (Accepted n) new old = new
-state_for (Refused why place) new old = old
+state_for (Ok n) new old = new
+state_for (Err r) new old = old
 
 -- a step's answer
 abbrev pub step_for : Answer → CardStep

@@ -23,11 +23,10 @@ ghost use Rattle.card.specs.Answers.{word_for, report_for, bytes_for, reading_fo
 use codeword::{Correction, Engine};
 use coverage::{Coverage, Rate};
 use follower::{FollowError, Followed};
-use job::JobAnswer;
 use job_listing::Listed;
 use reader::{Changes, Reading};
 use sender::{Answer, Cursor, PageTable, Sender};
-use transmission::Report;
+use transmission::{SendError, Sent};
 
 // A word, 0 or 20, and how many bits are changed.
 #[repr(C)]
@@ -165,28 +164,21 @@ pub fn card_correct_slowly(word: u32) -> CardWord
 }
 
 // A report as numbers.
-fn report_numbers(r: Report) -> CardReport
+fn report_numbers(r: Result<Sent, SendError>) -> CardReport
     ensures { result ≡ report_for r }
 {
     let place = transmission::place(r);
     let position = transmission::position(r);
     let number = transmission::number(r);
     match r {
-        Report::Sent { batches, words } => CardReport {
+        Ok(sent) => CardReport {
             place: place,
             position: position,
             number: number,
-            batches: batches,
-            words: words,
+            batches: sent.batches,
+            words: sent.words,
         },
-        Report::Declined { why: _, place: _ } => CardReport {
-            place: place,
-            position: position,
-            number: number,
-            batches: 0,
-            words: 0,
-        },
-        Report::NoRoom => CardReport {
+        Err(_) => CardReport {
             place: place,
             position: position,
             number: number,
@@ -458,7 +450,7 @@ fn begin<'a>(
         number: number,
     };
     match answer {
-        JobAnswer::Accepted(_) => {
+        Ok(_) => {
             let first = opening.cursor;
             let laid = opening.pages;
             let unsent = opening.sent;
@@ -469,7 +461,7 @@ fn begin<'a>(
                 sent: unsent,
             }
         }
-        JobAnswer::Refused { why: _, place: _ } => Begun {
+        Err(_) => Begun {
             refusal: refusal,
             cursor: cursor,
             pages: table,

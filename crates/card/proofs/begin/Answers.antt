@@ -2,12 +2,11 @@
 use mathlib.Core.Path.{◌≡◌, sym, ap, ◌∙◌}
 use mathlib.Core.List.{List}
 use Prim.Native.Nat.{ℕ}
+use Rattle.std.specs.Prelude.{Ok, Err}
 use Rattle.job.specs.Submission.{Submission, with_book}
 use Rattle.job.specs.Job.{job_of}
-use Rattle.job.specs.Refusal.{job_number, job_place, job_position}
-use Rattle.job.specs.declared.Refusal.{Refusal}
-use Rattle.job.specs.declared.JobAnswer.{JobAnswer}
-use Rattle.job.specs.declared.JobAnswer.TheVariants.{Accepted, Refused}
+use Rattle.job.specs.Refusal.{job_number, job_place, job_position, JobAnswer}
+use Rattle.job.specs.declared.Refused.{Refused}
 use Rattle.sender.specs.declared.Opening.{Opening}
 use Rattle.sender.specs.declared.Sender.{Sender}
 use Rattle.sender.specs.Step.{state_from}
@@ -29,33 +28,33 @@ module _ (s : Submission) (old : Sender) {o : Opening} {words : List ℕ} (e : o
   unfolding started_of
   then_words a t = w ∙ ap (λ (x : JobAnswer). words_by x (started_of s).state.words old.words) (answer a t)
 
-  accepts : (n : ℕ) → o.answer ≡ Accepted n → state_from o.pages o.sent o.cursor words ≡ state_for (started_of s).answer (started_of s).state old
+  accepts : (n : ℕ) → o.answer ≡ Ok n → state_from o.pages o.sent o.cursor words ≡ state_for (started_of s).answer (started_of s).state old
   accepts n t =
-      (λ i. state_from (e i).pages (e i).sent (e i).cursor (then_words (Accepted n) t i))
-      ∙ ap (λ (x : JobAnswer). state_for x (started_of s).state old) (sym (answer (Accepted n) t))
+      (λ i. state_from (e i).pages (e i).sent (e i).cursor (then_words (Ok n) t i))
+      ∙ ap (λ (x : JobAnswer). state_for x (started_of s).state old) (sym (answer (Ok n) t))
 
-  declines : (why : Refusal) (place : ℕ) → o.answer ≡ Refused why place → state_from old.pages old.sent old.cursor words ≡ state_for (started_of s).answer (started_of s).state old
-  declines why place t =
-      (λ i. state_from old.pages old.sent old.cursor (then_words (Refused why place) t i))
-      ∙ ap (λ (x : JobAnswer). state_for x (started_of s).state old) (sym (answer (Refused why place) t))
+  declines : {r : Refused} → o.answer ≡ Err r → state_from old.pages old.sent old.cursor words ≡ state_for (started_of s).answer (started_of s).state old
+  declines {r} t =
+      (λ i. state_from old.pages old.sent old.cursor (then_words (Err r) t i))
+      ∙ ap (λ (x : JobAnswer). state_for x (started_of s).state old) (sym (answer (Err r) t))
 
-pub returns-in-Accepted : goal.returns-in-Accepted
-returns-in-Accepted c =
+pub returns-in-Ok : goal.returns-in-Ok
+returns-in-Ok c =
     let a = c.args in
     let s = c.start_with-opening in
     let submitted = with_book a.job.now a.book.now in
     let old = state_from a.table a.sent a.cursor a.words.now in (
       refusal submitted old s.ensures.value s.ensures.words_after c.place-place.ensures c.position-position.ensures
           c.number-number.ensures,
-      accepts submitted old s.ensures.value s.ensures.words_after _ c.in-Accepted.is,
+      accepts submitted old s.ensures.value s.ensures.words_after _ c.in-Ok.is,
     )
 
-pub returns-in-Refused : goal.returns-in-Refused
-returns-in-Refused c =
+pub returns-in-Err : goal.returns-in-Err
+returns-in-Err c =
     let a = c.args in
     let s = c.start_with-opening in
     let submitted = with_book a.job.now a.book.now in
     let old = state_from a.table a.sent a.cursor a.words.now in (
       refusal submitted old s.ensures.value s.ensures.words_after c.place-place.ensures c.position-position.ensures c.number-number.ensures,
-      declines submitted old s.ensures.value s.ensures.words_after _ _ c.in-Refused.is,
+      declines submitted old s.ensures.value s.ensures.words_after c.in-Err.is,
     )

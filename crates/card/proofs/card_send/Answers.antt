@@ -3,8 +3,7 @@ use mathlib.Core.Path.{◌∙◌, ap}
 use Rattle.base.specs.Lists.{over}
 use Rattle.job.specs.Submission.{with_book}
 use Rattle.transmission.specs.Sending.{sendings_of}
-use Rattle.transmission.specs.Report.{words_sent, slots_sent}
-use Rattle.transmission.specs.declared.Report.{Report}
+use Rattle.transmission.specs.Report.{Report, words_sent, slots_sent}
 use Rattle.card.specs.Answers.{report_for}
 use Rattle.card.proofs.card_send.Goals as goal
 

@@ -1,8 +1,7 @@
 -- `card::report_numbers` meets its contract. Assumes nothing.
 use mathlib.Core.Path.{◌≡◌, sym, ap}
 use Prim.Native.Nat.{ℕ}
-use Rattle.transmission.specs.Report.{place_of, position_of, number_of, batches_of, words_of}
-use Rattle.transmission.specs.declared.Report.{Report}
+use Rattle.transmission.specs.Report.{Report, place_of, position_of, number_of, batches_of, words_of}
 use Rattle.card.specs.declared.CardReport.{CardReport}
 use Rattle.card.specs.Answers.{report_for}
 use Rattle.card.proofs.report_numbers.Goals as goal
@@ -12,11 +11,8 @@ made : {r s : Report} {place position number : ℕ} → r ≡ s → place ≡ pl
     → ◌≡◌ {A = CardReport} (record { place = place; position = position; number = number; batches = batches_of s; words = words_of s }) (report_for r)
 made e p q n = λ i. record { place = p i; position = q i; number = n i; batches = sym (ap batches_of e) i; words = sym (ap words_of e) i }
 
-pub returns-in-Sent : goal.returns-in-Sent
-returns-in-Sent c = made c.in-Sent.is c.place-place.ensures c.position-position.ensures c.number-number.ensures
+pub returns-in-Ok : goal.returns-in-Ok
+returns-in-Ok c = made c.in-Ok.is c.place-place.ensures c.position-position.ensures c.number-number.ensures
 
-pub returns-in-Declined : goal.returns-in-Declined
-returns-in-Declined c = made c.in-Declined.is c.place-place.ensures c.position-position.ensures c.number-number.ensures
-
-pub returns-in-NoRoom : goal.returns-in-NoRoom
-returns-in-NoRoom c = made c.in-NoRoom.is c.place-place.ensures c.position-position.ensures c.number-number.ensures
+pub returns-in-Err : goal.returns-in-Err
+returns-in-Err c = made c.in-Err.is c.place-place.ensures c.position-position.ensures c.number-number.ensures
