@@ -66,7 +66,7 @@ pub struct Sender {
     pub words: [u32; 4032],
 }
 
-// What a step answers.
+// What a step answers. No Result of an Option: no caller passes one of the three on by `?`, and `Ok(None)` says less than `Done`.
 #[derive(Clone, Copy)]
 pub enum Answer {
     // The next word.
@@ -77,14 +77,14 @@ pub enum Answer {
     Refused,
 }
 
-// A job's answer, and the state that it gives.
+// A job's answer, and the state that it gives. No Result: a refused job gives a state too, of which `NoStepping` speaks.
 #[derive(Clone, Copy)]
 pub struct Started {
     pub answer: Result<usize, Refused>,
     pub state: Sender,
 }
 
-// A job's answer, and the state that it gives, without the message words.
+// A job's answer, and the state that it gives, without the message words. No Result: `start_with` promises this of a refused job too.
 #[derive(Clone, Copy)]
 pub struct Opening {
     pub answer: Result<usize, Refused>,
@@ -129,6 +129,7 @@ impl PageTable {
         ensures { Joined (λ i. get_or self.now.starts i 0 + get_or self.now.lengths i 0 + 63) self.now.count result }
     {
         let mut joined = 0;
+        // By index, since the two arrays are C's: over a zip of them the proof of the invariant did not close.
         for i in 0..self.count as usize {
             joined |= lifted_end(self.starts[i], self.lengths[i]);
         }
@@ -140,9 +141,9 @@ impl PageTable {
         requires { self.now.count ≤ 48 }
         ensures { result ≡ ltb (least (λ i. page_wrong (get_or self.now.frames i 0) (get_or self.now.starts i 0) (get_or self.now.lengths i 0)) self.now.count) self.now.count }
     {
-        let frame = self.frames_joined();
-        let end = self.ends_joined();
-        7 < frame || 4095 < end
+        let frame_over = 7 < self.frames_joined();
+        let words_beyond = 4095 < self.ends_joined();
+        frame_over || words_beyond
     }
 
     // Whether the running page is not counted, or does not have the running word.
@@ -273,7 +274,7 @@ pub fn step_value(s: Sender) -> Stepped
     Stepped { answer, state }
 }
 
-// The same by the name that callers know for the step in place of a state that is passed and returned.
+// The same by its other name, which stays since docs/CLAIMS.md names both.
 pub fn step_owned(state: Sender) -> Stepped
     ensures { result ≡ step_of state }
 {
