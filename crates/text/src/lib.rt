@@ -309,17 +309,21 @@ fn ends_text(bits: u32) -> bool
     }
 }
 
-// Writes the alphanumeric text of groups as pairs of digits, and answers how many digits they are. A loop of its own, for one pass: that of
-// the numeric text knows its end before it starts, from behind, and this one finds it on its way.
+// Writes the alphanumeric text of groups as pairs of digits, and answers how many digits they are. A loop of its own, for one pass: it
+// finds its end on the way. A `for` over the whole characters has one test more a turn: tried, 5 in 100 instructions more for a text
+// there and back (callgrind).
 fn write_alphanumeric(groups: &[u32], digits: &mut [u8]) -> usize
     requires { 10 * length groups.now ≤ length digits.old }
     ensures value { result ≡ length (heard_digits Alphanumeric groups.now) }
     ensures digits_after { digits.new ≡ over digits.old (heard_digits Alphanumeric groups.now) }
 {
-    let whole = 20 * groups.len() / 7;
     let mut b = NO_BITS;
-    for i in 0..whole {
+    let mut i = 0;
+    loop {
         b = more(b, groups);
+        if b.have < 7 {
+            return 2 * i;
+        }
         b.have -= 7;
         let bits = ((b.window >> b.have) % 128) as u32;
         if ends_text(bits) {
@@ -327,8 +331,8 @@ fn write_alphanumeric(groups: &[u32], digits: &mut [u8]) -> usize
         }
         digits[2 * i] = bits_digit(bits % 8 * 2);
         digits[2 * i + 1] = bits_digit(bits / 8);
+        i += 1;
     }
-    2 * whole
 }
 
 // Writes the text of groups as pairs of digits over the front of the slice. It asks for ten digits a group, the most that a group's five
