@@ -1,8 +1,8 @@
 -- The library's answers as C has them: numbers only. A number is that of document 01's table, 0 where nothing is declined; a place is its
 -- place, and a position its second place (request R-1).
-use Rattle.std.specs.Prelude.{ℕ, Result, Ok, Err}
+use Rattle.std.specs.Prelude.{ℕ, Option, Result, Ok, Err, ⊤}
 use Rattle.codeword.specs.Answer as correction
-use Rattle.codeword.specs.declared.Correction.{Correction}
+use Rattle.codeword.specs.declared.Corrected.{Corrected}
 use Rattle.job.specs.Refusal.{job_number, job_place, job_position, JobAnswer, refused}
 use Rattle.transmission.specs.Report as report
 use Rattle.transmission.specs.Report.{Report}
@@ -17,7 +17,7 @@ use Rattle.receiver.specs.Answers as receiving
 use Rattle.receiver.specs.declared.Refusal as receiver
 use Rattle.receiver.specs.declared.Totals.{Totals}
 use Rattle.coverage.specs.Report as covering
-use Rattle.coverage.specs.declared.Adding.{Adding}
+use Rattle.coverage.specs.declared.AddError.{AddError}
 use Rattle.sender.specs.Answer as step
 use Rattle.sender.specs.declared.Answer.{Answer}
 use Rattle.sender.specs.declared.Sender.{Sender}
@@ -31,7 +31,7 @@ use Rattle.card.specs.declared.CardRefusal.{CardRefusal}
 use Rattle.card.specs.declared.CardStep.{CardStep}
 
 -- a word's answer
-abbrev pub word_for : ℕ → Correction → CardWord
+abbrev pub word_for : ℕ → Option Corrected → CardWord
 word_for w a = record { word = correction.word_read w a; number = correction.number_of a; changed = correction.changed_of a }
 
 -- a job's report; the counts of a declined one are zero
@@ -88,7 +88,7 @@ receiving_for r =
     }
 
 -- the answer to a listing that is added to a report; it has no position
-abbrev pub adding_for : Adding → CardRefusal
+abbrev pub adding_for : Result ⊤ AddError → CardRefusal
 adding_for a = record { place = covering.place_of a; position = 0; number = covering.number_of a }
 
 -- the answer to a job whose sending is to start

@@ -20,7 +20,7 @@ ghost use Rattle.sender.specs.Start.{started_of};
 ghost use Rattle.sender.specs.Step.{state_from, step_of};
 ghost use Rattle.card.specs.Answers.{word_for, report_for, bytes_for, reading_for, unread_for, following_for, receiving_for, adding_for, refusal_for, state_for, step_for};
 
-use codeword::{Correction, Engine};
+use codeword::{Corrected, Engine};
 use coverage::{Coverage, Rate};
 use follower::{FollowError, Followed};
 use job_listing::Listed;
@@ -130,10 +130,10 @@ struct Begun {
 }
 
 // The answer to a word as numbers: the corrected word and how many bits are changed, or the word itself and number 20.
-fn word_numbers(word: u32, a: Correction) -> CardWord
+fn word_numbers(word: u32, a: Option<Corrected>) -> CardWord
     ensures { result ≡ word_for word a }
 {
-    let Correction::Corrected(c, changed) = a else {
+    let Some(Corrected { codeword, changed }) = a else {
         return CardWord {
             word: word,
             number: 20,
@@ -141,7 +141,7 @@ fn word_numbers(word: u32, a: Correction) -> CardWord
         };
     };
     CardWord {
-        word: c.word(),
+        word: codeword.word(),
         number: 0,
         changed: changed,
     }
