@@ -2,7 +2,7 @@
 // `program::cover` says which. A file that can't be read is named on standard error, and nothing is printed.
 #![tactic(auto)]
 
-use coverage::{Adding, Covered};
+use coverage::Covered;
 use std::rt::{Env, Files};
 
 // Adds the listing of a file to what the files before it add up to; none where it can't be read, which standard error is told.
@@ -53,7 +53,7 @@ fn print_report<R: Print + Eprint>(rt: &R, covered: Covered) {
 
 fn main(rt: HostRuntime) {
     let mut covered = Covered {
-        answer: Adding::Added,
+        answer: Ok(()),
         coverage: coverage::empty(),
     };
     for i in 1..program::argument_count(&rt) {
