@@ -8,7 +8,7 @@ use lib.ListN.{length, take}
 use Rattle.base.proofs.SearchLaws.{le_or_lt}
 use Rattle.coverage.specs.Month.{fed, totals}
 use Rattle.coverage.specs.Report.{no_coverage, added_to}
-use Rattle.coverage.specs.declared.Adding.TheVariants.{Added}
+use Rattle.std.specs.Prelude.{Ok}
 use Rattle.coverage.specs.declared.Covered.{Covered}
 use Rattle.coverage.proofs.Month.{month_theorem}
 use Rattle.program.specs.CoverageText.{coverage_text}
@@ -28,7 +28,7 @@ fed_front m h [] k = refl
 fed_front m h (s ∷ ss) k = ap (λ (a : Covered). fed a (map (take m) ss)) (listing_front k.coverage s m h) ∙ fed_front m h ss (added_to k.coverage s)
 
 month_front : (ss : List (List ℕ)) (m : ℕ) → 46557 ≤ m → month_prints (map (take m) ss) ≡ month_prints ss
-month_front ss m h = ap prints (fed_front m h ss (record { answer = Added; coverage = no_coverage }))
+month_front ss m h = ap prints (fed_front m h ss (record { answer = Ok tt; coverage = no_coverage }))
 
 month_report : (ss : List (List ℕ)) → length ss ≤ 1000 → month_prints ss ≡ coverage_text (totals ss)
 unfolding cover_prints

@@ -3,7 +3,7 @@ use mathlib.Core.Path.{◌≡◌, refl, ap, ◌∙◌}
 use mathlib.Core.Bool.{Bool, true, false, cond}
 use mathlib.Core.List.{List}
 use mathlib.Core.Logic.{⊎_elim}
-use mathlib.Core.Option.{none, some}
+use Rattle.std.specs.Prelude.{None, Some}
 use Prim.Native.Nat.{ℕ, ◌+◌, ◌*◌, ◌/◌, ◌%◌, ◌^◌, ◌≤◌, ◌<◌}
 use native.Mathlib.Omega.{arith}
 use lib.ListN.{length, get_or, drop, length-drop, get_or-eq_default}
@@ -68,7 +68,7 @@ module _ (xs : List Sending) (most : ℕ) (words : List ℕ) (rec : Received mos
     sync_flips : distance (sync_word (drop 18 words) q) sync ≡ flip_count (transmission_of xs) words (18 + 17 * q)
     sync_flips = rw (get_or-drop 18 words (17 * q) 0, sent_sync)
 
-    says_sync : nearest (sync_word (drop 18 words) q) ≡ some sync
+    says_sync : nearest (sync_word (drop 18 words) q) ≡ Some sync
     says_sync =
         let inside : 18 + 17 * q < length words = omega (arith, size) in
         sync_near (sync_word (drop 18 words) q) (rw (get_or-drop 18 words (17 * q) 0) (rec.fits (18 + 17 * q) inside))
@@ -99,12 +99,12 @@ module _ (xs : List Sending) (most : ℕ) (words : List ℕ) (rec : Received mos
     word_flips = rw (received_word words s, sent_word)
 
     -- it is lost, or corrected to that one
-    gone : most ≤ 3 → lost_at (transmission_of xs) words s ≡ true → nearest w ≡ none
+    gone : most ≤ 3 → lost_at (transmission_of xs) words s ≡ true → nearest w ≡ None
     gone m e =
         refused xs c w word_fits
         (omega (arith, word_flips, few_flips s, ltb-true 2 (flip_count (transmission_of xs) words (slot_index s)) e))
 
-    kept : lost_at (transmission_of xs) words s ≡ false → nearest w ≡ some (codeword_in (codewords_of xs) c)
+    kept : lost_at (transmission_of xs) words s ≡ false → nearest w ≡ Some (codeword_in (codewords_of xs) c)
     kept e =
         corrected xs c w word_fits
         (omega (arith, word_flips, ltb-false 2 (flip_count (transmission_of xs) words (slot_index s)) e))

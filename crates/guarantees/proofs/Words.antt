@@ -2,7 +2,7 @@
 use mathlib.Core.Path.{◌≡◌, refl, ◌∙◌}
 use mathlib.Core.Bool.{true, false}
 use mathlib.Core.List.{List}
-use mathlib.Core.Option.{none, some}
+use Rattle.std.specs.Prelude.{None, Some}
 use Prim.Native.Nat.{ℕ, ◌+◌, ◌*◌, ◌/◌, ◌%◌, ◌^◌, ◌≤◌, ◌<◌}
 use native.Mathlib.Omega.{arith}
 use lib.ListN.{get_or}
@@ -35,11 +35,11 @@ obeying xs (message i j) = correction_theorem.of_message _
 
 -- a word at most two bits away from what was sent is corrected to it
 pub corrected : (xs : List Sending) (c : Content) (w : ℕ) → w < 2 ^ 32 → distance w (codeword_in (codewords_of xs) c) ≤ 2
-    → nearest w ≡ some (codeword_in (codewords_of xs) c)
+    → nearest w ≡ Some (codeword_in (codewords_of xs) c)
 corrected xs c w h d = correction_theorem.reads w (codeword_in (codewords_of xs) c) h (record { codeword = obeying xs c; close = d })
 
 -- one that is three bits away is refused
-pub refused : (xs : List Sending) (c : Content) (w : ℕ) → w < 2 ^ 32 → distance w (codeword_in (codewords_of xs) c) ≡ 3 → nearest w ≡ none
+pub refused : (xs : List Sending) (c : Content) (w : ℕ) → w < 2 ^ 32 → distance w (codeword_in (codewords_of xs) c) ≡ 3 → nearest w ≡ None
 refused xs c w h d = correction_theorem.refuses w h (correction_theorem.three_far w (codeword_in (codewords_of xs) c) h (obeying xs c) d)
 
 -- ---- what the words say
