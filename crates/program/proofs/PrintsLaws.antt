@@ -23,12 +23,12 @@ use Rattle.listing.specs.Words.{words_of}
 use Rattle.reader.specs.Reading.{heard_in}
 use Rattle.reader.specs.Lines.{lines_heard}
 use Rattle.reader.specs.Answers.{read_listing, lines_read, number_of, place_of}
-use Rattle.reader.specs.declared.Changes.{Changes}
-use Rattle.reader.specs.declared.Fault.{Fault}
 use Rattle.reader.specs.declared.Fault.TheVariants.{Malformed, TooMany, Unsynced}
-use Rattle.reader.specs.declared.Reading.{Reading}
-use Rattle.reader.specs.declared.Reading.TheVariants.{Read}
-use Rattle.reader.specs.declared.Reading.TheVariants as reading
+use Rattle.reader.specs.Answers.{Reading}
+use Rattle.reader.specs.declared.Read.{Read}
+use Rattle.reader.specs.declared.ReadError.{ReadError}
+use Rattle.reader.specs.declared.ReadError.TheVariants as read-error
+use Rattle.std.specs.Prelude.{Ok, Err}
 use Rattle.reader.proofs.RoomLaws.{bytes_read_lem}
 use Rattle.follower.specs.Pages.{pages_for}
 use Rattle.follower.specs.Answers as following
@@ -116,18 +116,16 @@ module _ (s old : List ℕ) {n : ℕ} {out : List ℕ} where
 
 -- the cases of the answer
 module _ (s old : List ℕ) (h : is_long s ≡ false) {out : List ℕ} where
-  pub read_whole : (n pages lost orphans : ℕ) (changed : Changes) → length old ≡ 48000 → Read pages lost orphans changed n ≡ read_listing s (length old)
-      → out ≡ over old (lines_heard (heard_in (words_of s)).pages) → Printed old (read_prints s) n out
-  read_whole n pages lost orphans changed room e o = read_is s old (Read pages lost orphans changed n) h room e (bytes_read_lem s (length old) e, o)
+  pub read_whole : (read : Read) → length old ≡ 48000 → Ok read ≡ read_listing s (length old)
+      → out ≡ over old (lines_heard (heard_in (words_of s)).pages) → Printed old (read_prints s) read.bytes out
+  read_whole read room e o = read_is s old (Ok read) h room e (bytes_read_lem s (length old) e, o)
 
-  pub read_declined : (n : ℕ) (why : Fault) → length old ≡ 48000 → reading.Declined why ≡ read_listing s (length old)
-      → Printed old (refusal_line (number_of (reading.Declined why)) (place_of (reading.Declined why)) 0) n out → Printed old (read_prints s) n out
-  read_declined n (Malformed line) room e p = read_is s old (reading.Declined (Malformed line)) h room e p
-  read_declined n (TooMany line) room e p = read_is s old (reading.Declined (TooMany line)) h room e p
-  read_declined n (Unsynced batch) room e p = read_is s old (reading.Declined (Unsynced batch)) h room e p
-
-  pub read_full : (n : ℕ) → length old ≡ 48000 → reading.NoRoom ≡ read_listing s (length old) → Printed old (refusal_line 10 0 0) n out → Printed old (read_prints s) n out
-  read_full n room e p = read_is s old reading.NoRoom h room e p
+  pub read_declined : (n : ℕ) (why : ReadError) → length old ≡ 48000 → Err why ≡ read_listing s (length old)
+      → Printed old (refusal_line (number_of (Err why)) (place_of (Err why)) 0) n out → Printed old (read_prints s) n out
+  read_declined n (read-error.Fault (Malformed line)) room e p = read_is s old (Err (read-error.Fault (Malformed line))) h room e p
+  read_declined n (read-error.Fault (TooMany line)) room e p = read_is s old (Err (read-error.Fault (TooMany line))) h room e p
+  read_declined n (read-error.Fault (Unsynced batch)) room e p = read_is s old (Err (read-error.Fault (Unsynced batch))) h room e p
+  read_declined n read-error.NoRoom room e p = read_is s old (Err read-error.NoRoom) h room e p
 
 -- ---- the following program
 

@@ -17,7 +17,6 @@ use codeword::Engine;
 use coverage::{AddError, Coverage};
 use job_listing::Listed;
 use printed::Printed;
-use reader::Reading;
 use std::env::FillError;
 use std::io::{Input, Read};
 use std::rt::{Env, Files};
@@ -179,15 +178,8 @@ pub fn read(engine: Engine, input: &[u8], out: &mut [u8; 48000]) -> usize
     let number = reader::number(answer);
     let place = reader::place(answer);
     match answer {
-        Reading::Read {
-            pages: _,
-            lost: _,
-            orphans: _,
-            changed: _,
-            bytes,
-        } => bytes,
-        Reading::Declined(_) => write_refusal(number, place, 0, out),
-        Reading::NoRoom => write_refusal(number, place, 0, out),
+        Ok(read) => read.bytes,
+        Err(_) => write_refusal(number, place, 0, out),
     }
 }
 

@@ -4,10 +4,9 @@ use lib.ListN.{length}
 use borrow.Author.Rules.{rules}
 use Rattle.base.specs.Lists.{over}
 use Rattle.listing.specs.Words.{words_of}
-use Rattle.reader.specs.Answers.{lines_read, number_of, place_of}
-use Rattle.reader.specs.declared.Reading.{Reading}
+use Rattle.reader.specs.Answers.{Reading, lines_read, number_of, place_of}
 use Rattle.program.specs.Prints.{read_prints}
-use Rattle.program.proofs.PrintsLaws.{counted, line_as, read_long, read_whole, read_declined, read_full}
+use Rattle.program.proofs.PrintsLaws.{counted, line_as, read_long, read_whole, read_declined}
 use Rattle.program.proofs.read.Goals.{After-read_listing-answer}
 use Rattle.program.proofs.read.Goals as goal
 
@@ -24,25 +23,17 @@ returns-then-is_long c =
     let a = c.args in
     let whole = counted a.out.now (read_prints a.input.now) (read_long a.input.now a.out.now (sym c.is_long.ensures ∙ c.if-is_long.true) (c.write_refusal.ensures.value, c.write_refusal.ensures.out_after)) in record { value = whole.0; out_after = whole.1.0; prefix_len = whole.1.1 }
 
-pub returns-in-Read : goal.returns-in-Read
-returns-in-Read c =
+pub returns-in-Ok : goal.returns-in-Ok
+returns-in-Ok c =
     let a = c.args in
-    let told = sym c.in-Read.is in
+    let told = sym c.in-Ok.is in
     let whole = counted a.out.now (read_prints a.input.now)
-    (read_whole a.input.now a.out.now (sym c.is_long.ensures ∙ c.if-is_long.false) _ _ _ _ _ (room (goal.at.returns-in-Read c).After-read_listing-answer) (told ∙ c.read_listing-answer.ensures.value) (left (goal.at.returns-in-Read c).After-read_listing-answer (sym told))) in record { value = whole.0; out_after = whole.1.0; prefix_len = whole.1.1 }
+    (read_whole a.input.now a.out.now (sym c.is_long.ensures ∙ c.if-is_long.false) _ (room (goal.at.returns-in-Ok c).After-read_listing-answer) (told ∙ c.read_listing-answer.ensures.value) (left (goal.at.returns-in-Ok c).After-read_listing-answer (sym told))) in record { value = whole.0; out_after = whole.1.0; prefix_len = whole.1.1 }
 
-pub returns-in-Declined : goal.returns-in-Declined
-returns-in-Declined c =
+pub returns-in-Err : goal.returns-in-Err
+returns-in-Err c =
     let a = c.args in
-    let told = sym c.in-Declined.is in
+    let told = sym c.in-Err.is in
     let whole = counted a.out.now (read_prints a.input.now)
-    (read_declined a.input.now a.out.now (sym c.is_long.ensures ∙ c.if-is_long.false) _ _ (room (goal.at.returns-in-Declined c).After-read_listing-answer) (told ∙ c.read_listing-answer.ensures.value)
-    (line_as a.out.now _ _ _ (c.number-number.ensures ∙ ap number_of (sym told)) (c.place-place.ensures ∙ ap place_of (sym told)) refl (left (goal.at.returns-in-Declined c).After-read_listing-answer (sym told)) (c.write_refusal-in-Declined.ensures.value, c.write_refusal-in-Declined.ensures.out_after))) in record { value = whole.0; out_after = whole.1.0; prefix_len = whole.1.1 }
-
-pub returns-in-NoRoom : goal.returns-in-NoRoom
-returns-in-NoRoom c =
-    let a = c.args in
-    let told = sym c.in-NoRoom.is in
-    let whole = counted a.out.now (read_prints a.input.now)
-    (read_full a.input.now a.out.now (sym c.is_long.ensures ∙ c.if-is_long.false) _ (room (goal.at.returns-in-NoRoom c).After-read_listing-answer) (told ∙ c.read_listing-answer.ensures.value)
-    (line_as a.out.now _ _ _ (c.number-number.ensures ∙ ap number_of (sym told)) (c.place-place.ensures ∙ ap place_of (sym told)) refl (left (goal.at.returns-in-NoRoom c).After-read_listing-answer (sym told)) (c.write_refusal-in-NoRoom.ensures.value, c.write_refusal-in-NoRoom.ensures.out_after))) in record { value = whole.0; out_after = whole.1.0; prefix_len = whole.1.1 }
+    (read_declined a.input.now a.out.now (sym c.is_long.ensures ∙ c.if-is_long.false) _ _ (room (goal.at.returns-in-Err c).After-read_listing-answer) (told ∙ c.read_listing-answer.ensures.value)
+    (line_as a.out.now _ _ _ (c.number-number.ensures ∙ ap number_of (sym told)) (c.place-place.ensures ∙ ap place_of (sym told)) refl (left (goal.at.returns-in-Err c).After-read_listing-answer (sym told)) (c.write_refusal-in-Err.ensures.value, c.write_refusal-in-Err.ensures.out_after))) in record { value = whole.0; out_after = whole.1.0; prefix_len = whole.1.1 }
