@@ -93,12 +93,8 @@ fn groups(rt: &impl Print, line: &[u8]) {
     let n = job::groups(kind, (digits.len() % 65536) as u16);
     let mut first = [0u32; 8];
     job::write_groups(kind, digits, &mut first);
-    let mut g = 0;
-    while g < 8 {
-        if g < n {
-            print_group(rt, first[g]);
-        }
-        g += 1;
+    for group in first.iter().take(n) {
+        print_group(rt, *group);
     }
 }
 
@@ -118,10 +114,8 @@ fn print_heard(rt: &impl Print, coding: Coding, groups: &[u32; 2]) {
     let Some(n) = text::write_heard(coding, groups, &mut digits) else {
         return;
     };
-    let mut i: usize = 0;
-    while i < n / 2 {
+    for i in 0..n / 2 {
         print(rt, &[base::pair_byte(&digits, i, 0)]);
-        i += 1;
     }
 }
 
@@ -138,12 +132,10 @@ fn newlines(question: &[u8], out: &mut [u8]) -> usize {
     if out.len() <= question.len() {
         return 0;
     }
-    let mut i: usize = 0;
-    while i < question.len() {
-        out[i] = newline_for_bar(question[i]);
-        i += 1;
+    for (b, asked) in out.iter_mut().zip(question) {
+        *b = newline_for_bar(*asked);
     }
-    i
+    question.len()
 }
 
 fn print_answer(rt: &impl Print, answer: Result<usize, Refused>) {
@@ -232,19 +224,11 @@ fn word_buffer() -> [u32; 5118] {
     [0; 5118]
 }
 
-fn wide(x: u32) -> u64 {
-    x as u64
-}
-
 // The first n numbers of a slice, in decimal.
 fn print_numbers(rt: &impl Print, numbers: &[u32], n: usize) {
-    let mut i: usize = 0;
-    while i < numbers.len() {
-        if i < n {
-            print(rt, b" ");
-            print_number(rt, wide(numbers[i]));
-        }
-        i += 1;
+    for number in numbers.iter().take(n) {
+        print(rt, b" ");
+        print_number(rt, u64::from(*number));
     }
 }
 
@@ -297,12 +281,8 @@ fn bar_for_newline(b: u8) -> u8 {
 
 // The first n bytes of a slice, a bar for each newline.
 fn print_bars(rt: &impl Print, bytes: &[u8], n: usize) {
-    let mut i: usize = 0;
-    while i < bytes.len() {
-        if i < n {
-            print(rt, &[bar_for_newline(bytes[i])]);
-        }
-        i += 1;
+    for b in bytes.iter().take(n) {
+        print(rt, &[bar_for_newline(*b)]);
     }
 }
 
@@ -354,11 +334,8 @@ fn word_or_idle(line: &[u8], i: usize) -> u32 {
 
 // Fills a slice with the words of a line, and idle behind them.
 fn words_in(line: &[u8], words: &mut [u32]) {
-    let n = words.len();
-    let mut i: usize = 0;
-    while i < n {
-        words[i] = word_or_idle(line, i);
-        i += 1;
+    for (i, word) in words.iter_mut().enumerate() {
+        *word = word_or_idle(line, i);
     }
 }
 
