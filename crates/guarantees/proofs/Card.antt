@@ -4,15 +4,14 @@ use mathlib.Core.List.{List, [], ◌∷◌, ◌++◌, map}
 use Prim.Native.Nat.{ℕ, zero, suc}
 use native.Mathlib.Omega.{arith}
 use lib.ListN.{length, take, replicate, length-map}
+use Rattle.job.specs.Refusal.{JobAnswer}
+use Rattle.std.specs.Prelude.{Ok, Err}
 use Rattle.base.specs.Lists.{over}
 use Rattle.job.specs.Submission.{Submission}
-use Rattle.job.specs.declared.JobAnswer.{JobAnswer}
-use Rattle.job.specs.declared.JobAnswer.TheVariants as job-answer
 use Rattle.transmission.specs.Sending.{sendings_of}
 use Rattle.transmission.specs.Transmission.{transmission_of}
-use Rattle.transmission.specs.Report.{report_of, words_sent, slots_sent}
-use Rattle.transmission.specs.declared.Report.{Report}
-use Rattle.transmission.specs.declared.Report.TheVariants.{Sent, Declined, NoRoom}
+use Rattle.transmission.specs.Report.{Report, sent, report_of, words_sent, slots_sent}
+use Rattle.transmission.specs.declared.SendError.TheVariants.{Job, NoRoom}
 use Rattle.sender.specs.declared.Sender.{Sender}
 use Rattle.sender.specs.declared.Answer.{Answer}
 use Rattle.sender.specs.declared.Answer.TheVariants.{Word, Done}
@@ -32,16 +31,16 @@ use Rattle.guarantees.proofs.Demand3.{demand3}
 -- ---- sending
 
 -- number 0 is given for a report alone
-by_number : (a : Report) → (report_for a).number ≡ 0 → a ≡ Sent (report_for a).batches (report_for a).words
-by_number (Sent b m) e = refl
-by_number (Declined why place) e = absurd (refused_not 0 refl why e)
-by_number NoRoom e = absurd (omega arith)
+by_number : (a : Report) → (report_for a).number ≡ 0 → a ≡ sent (report_for a).batches (report_for a).words
+by_number (Ok t) e = refl
+by_number (Err (Job r)) e = absurd (refused_not 0 refl r.why e)
+by_number (Err NoRoom) e = absurd (omega arith)
 
-as_call : (s : Submission) (w₀ t₀ w t : List ℕ) (r : CardReport) → CardSend s w₀ t₀ r w t → r.number ≡ 0 → Call s w₀ t₀ (Sent r.batches r.words) w t
+as_call : (s : Submission) (w₀ t₀ w t : List ℕ) (r : CardReport) → CardSend s w₀ t₀ r w t → r.number ≡ 0 → Call s w₀ t₀ (sent r.batches r.words) w t
 as_call s w₀ t₀ w t r call e =
     let a = report_of s (length w₀) (length t₀) in
-    let is : a ≡ Sent r.batches r.words =
-    by_number a (ap (λ (x : CardReport). x.number) (sym call.answer) ∙ e) ∙ ap (λ (x : CardReport). Sent x.batches x.words) (sym call.answer) in
+    let is : a ≡ sent r.batches r.words =
+    by_number a (ap (λ (x : CardReport). x.number) (sym call.answer) ∙ e) ∙ ap (λ (x : CardReport). sent x.batches x.words) (sym call.answer) in
     record {
       answer = sym is;
       words = call.words ∙ ap (λ (x : Report). over w₀ (words_sent x (sendings_of s))) is;
@@ -51,12 +50,12 @@ as_call s w₀ t₀ w t r call e =
 -- ---- starting
 
 -- number 0 is given for an accepted job alone, and the state is then the job's own
-accepted : (a : JobAnswer) (new old : Sender) → (refusal_for a).number ≡ 0 → (n : ℕ) × (a ≡ job-answer.Accepted n) × (state_for a new old ≡ new)
-accepted (job-answer.Accepted n) new old e = (n, refl, refl)
-accepted (job-answer.Refused why place) new old e = absurd (refused_not 0 refl why e)
+accepted : (a : JobAnswer) (new old : Sender) → (refusal_for a).number ≡ 0 → (n : ℕ) × (a ≡ Ok n) × (state_for a new old ≡ new)
+accepted (Ok n) new old e = (n, refl, refl)
+accepted (Err r) new old e = absurd (refused_not 0 refl r.why e)
 
 as_start : (s : Submission) (old : Sender) (r : CardRefusal) (u : Sender) → CardStart s old r u → r.number ≡ 0
-    → (n : ℕ) × StartCall s (job-answer.Accepted n) u
+    → (n : ℕ) × StartCall s (Ok n) u
 as_start s old r u call e =
     let z = started_of s in
     let x = accepted z.answer z.state old (ap (λ (y : CardRefusal). y.number) (sym call.answer) ∙ e) in

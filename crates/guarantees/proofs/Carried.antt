@@ -7,6 +7,7 @@ use native.Mathlib.Omega.{arith}
 use lib.ListN.{length, get_or, take, drop, get_or-append}
 use lib.Seq.{take_at}
 use lib.Dec.{eqb, ltb}
+use Rattle.std.specs.Prelude.{Ok}
 use Rattle.base.specs.Lists.{over}
 use Rattle.base.specs.Search.{sum}
 use Rattle.base.proofs.ListLaws.{over_length}
@@ -14,14 +15,13 @@ use Rattle.base.proofs.SearchLaws.{sum_cong}
 use Rattle.codeword.specs.Code as code
 use Rattle.job.specs.Submission.{Submission}
 use Rattle.job.specs.Job.{job_of}
-use Rattle.job.specs.declared.JobAnswer.TheVariants.{Accepted}
 use Rattle.placement.specs.Placement.{Job, content_at, slot_of, slots}
 use Rattle.placement.specs.Promise.{Placed, earlier}
 use Rattle.placement.proofs.Placed.{slots_length, slots_at}
 use Rattle.transmission.specs.Sending.{Sending, sendings_of, placement_of}
 use Rattle.transmission.specs.Transmission.{Codewords, codewords_of, address_of, message_of, word_at, transmission_of}
 use Rattle.transmission.specs.Transmitted.{slot_index, slot_word, is_address, addresses_to, Transmitted}
-use Rattle.transmission.specs.declared.Report.TheVariants.{Sent}
+use Rattle.transmission.specs.Report as report
 use Rattle.transmission.proofs.Sendings.{sending_at_lem, words_at, sendings_placed, sendings_count, accepted_sendings}
 use Rattle.transmission.proofs.TransmissionLaws.{transmission_length, transmission_at, batches_least}
 use Rattle.transmission.proofs.Transmitted.{transmitted}
@@ -34,7 +34,7 @@ use Rattle.guarantees.proofs.Reported.{Reported, reported}
 pub front_fits : (old new : List ℕ) {n : ℕ} → length new ≡ n → n ≤ length old → n ≤ length (over old new)
 front_fits old new e h = omega (arith, over_length old new (omega arith))
 
-module _ (s : Submission) (n : ℕ) (ok : job_of s ≡ Accepted n) where
+module _ (s : Submission) (n : ℕ) (ok : job_of s ≡ Ok n) where
   abbrev job : Job
   job = placement_of (sendings_of s)
 
@@ -50,7 +50,7 @@ module _ (s : Submission) (n : ℕ) (ok : job_of s ≡ Accepted n) where
   all_codewords : sum job.words job.pages ≡ sum (count s) n
   all_codewords = rw (page_count s n ok) (sum_cong job.words (count s) n word_count_lem)
 
-  module _ (w₀ t₀ w t : List ℕ) (b m : ℕ) (call : Call s w₀ t₀ (Sent b m) w t) where
+  module _ (w₀ t₀ w t : List ℕ) (b m : ℕ) (call : Call s w₀ t₀ (report.sent b m) w t) where
     says : Reported (job_of s) (sendings_of s) (length w₀) (length t₀) b m
     says = reported s (length w₀) (length t₀) (sym call.answer)
 

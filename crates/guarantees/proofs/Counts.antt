@@ -6,6 +6,7 @@ use Prim.Native.Nat.{ℕ, ◌≤◌, ◌<◌}
 use native.Mathlib.Omega.{arith}
 use lib.ListN.{length}
 use borrow.Author.Tests.{le-leb, lt-leb, ne_eqb, eq-eqb}
+use Rattle.std.specs.Prelude.{Ok}
 use Rattle.base.proofs.HexLaws.{bytes_length}
 use Rattle.base.proofs.SearchLaws.{le_or_lt}
 use Rattle.text.specs.Coding.{groups_of}
@@ -15,7 +16,6 @@ use Rattle.job.specs.Message.{count_from}
 use Rattle.job.specs.Pages.{kind_at, digits_at, plain_at}
 use Rattle.job.specs.Job.{job_of}
 use Rattle.job.specs.Accepted.{Sound}
-use Rattle.job.specs.declared.JobAnswer.TheVariants.{Accepted}
 use Rattle.job.proofs.Accepted.{accepted_job}
 use Rattle.job.proofs.Message.{is_data_lem, no_data, from_count, count_data, count_text}
 use Rattle.transmission.specs.Sending.{Sending, sendings_of, sending_at, placement_of}
@@ -47,7 +47,7 @@ count_of l q = ⊎_elim coded grouped (le_or_lt (kind_of l) 5)
         count_data kind (length (text_digits l)) (is_data_lem kind h q.known)
         ∙ rw (lt-leb kind 3 (omega arith), ne_eqb kind 4 (λ e. omega arith), ne_eqb kind 5 (λ e. omega arith))
 
-module _ (s : Submission) (n : ℕ) (ok : job_of s ≡ Accepted n) where
+module _ (s : Submission) (n : ℕ) (ok : job_of s ≡ Ok n) where
   pub groups_count : (i : ℕ) → i < n → length (page s i).groups ≡ count s i
   groups_count i l =
       let a = accepted_job s n ok in

@@ -9,6 +9,7 @@ use lib.Dec.{ltb}
 use lib.ListN.{length, take, length-take}
 use lib.Seq.{take_all}
 use borrow.Author.Tests.{lt-ltb, le-ltb, ltb-true, ltb-false}
+use Rattle.std.specs.Prelude.{Ok}
 use Rattle.base.proofs.Bools.{true_false}
 use Rattle.base.proofs.SearchLaws.{Least, least_is, least_only, le_or_lt}
 use Rattle.job.specs.Submission.{Submission}
@@ -16,7 +17,6 @@ use Rattle.job.specs.Line.{function_of}
 use Rattle.job.specs.Pages.{page_at, kind_at, digits_at}
 use Rattle.job.specs.Print.{printed}
 use Rattle.job.specs.Job.{job_of}
-use Rattle.job.specs.declared.JobAnswer.TheVariants.{Accepted}
 use Rattle.transmission.specs.Sending.{Sending, sendings_of, sending_at}
 use Rattle.transmission.specs.Transmission.{transmission_of}
 use Rattle.transmission.proofs.Sendings.{sending_at_lem}
@@ -41,7 +41,7 @@ module _ (s : Submission) (words : List ℕ) (p : ℕ) where
 abbrev pub line_read : Submission → List ℕ → ℕ → List ℕ
 line_read s words i = line_heard (hearing_in (slot_lost s words) (sendings_of s) i)
 
-module _ (s : Submission) (n : ℕ) (ok : job_of s ≡ Accepted n) (most : ℕ) (three : most ≤ 3) (words : List ℕ)
+module _ (s : Submission) (n : ℕ) (ok : job_of s ≡ Ok n) (most : ℕ) (three : most ≤ 3) (words : List ℕ)
     (rec : Received most (transmission_of (sendings_of s)) words) (i : ℕ) (l : i < n) (address_read : slot_flips s words (address_slot s i) ≤ 2) where
   abbrev m : ℕ
   m = reach (slot_lost s words) (sendings_of s) i

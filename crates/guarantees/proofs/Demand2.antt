@@ -5,13 +5,12 @@ use Prim.Native.Nat.{ℕ, ◌≤◌}
 use native.Mathlib.Omega.{arith}
 use lib.ListN.{length, get_or, drop, length-map}
 use lib.Seq.{take-append_seam}
+use Rattle.std.specs.Prelude.{Ok}
 use Rattle.job.specs.Submission.{Submission}
 use Rattle.job.specs.Job.{job_of}
-use Rattle.job.specs.declared.JobAnswer.TheVariants.{Accepted}
 use Rattle.transmission.specs.Sending.{sendings_of, sending_at, placement_of}
 use Rattle.transmission.specs.Transmission.{codewords_of, transmission_of}
-use Rattle.transmission.specs.Report.{report_of}
-use Rattle.transmission.specs.declared.Report.TheVariants.{Sent}
+use Rattle.transmission.specs.Report.{sent, report_of}
 use Rattle.transmission.proofs.Sendings.{sendable, accepted_sendings}
 use Rattle.transmission.proofs.TransmissionLaws.{transmission_length}
 use Rattle.reader.specs.Reading.{Heard}
@@ -30,7 +29,7 @@ use Rattle.guarantees.proofs.Reported.{reported}
 
 -- ---- an accepted job
 
-module _ (s : Submission) (n : ℕ) (ok : job_of s ≡ Accepted n) where
+module _ (s : Submission) (n : ℕ) (ok : job_of s ≡ Ok n) where
   pub ordered : InOrder (placement_of (sendings_of s)) (in_slot_order s)
   ordered = in_order (placement_of (sendings_of s)) (sendable (accepted_sendings s n ok)).framed
 
@@ -68,7 +67,7 @@ demand2 s n ok words rec = same_pages s n ok words rec (omega arith)
 
 -- ---- from what `send` reports
 
-module _ (s : Submission) (old : List ℕ) (slots b m : ℕ) (sent : report_of s (length old) slots ≡ Sent b m) where
+module _ (s : Submission) (old : List ℕ) (slots b m : ℕ) (sent : report_of s (length old) slots ≡ sent b m) where
   pub front : words_left s old slots m ≡ transmission_of (sendings_of s)
   front =
       let n : m ≡ length (transmission_of (sendings_of s)) =

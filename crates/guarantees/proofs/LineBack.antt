@@ -8,6 +8,7 @@ use Prim.Native.Nat.{ℕ, ◌/◌, ◌≤◌, ◌<◌}
 use native.Mathlib.Omega.{arith}
 use lib.ListN.{length}
 use borrow.Author.Tests.{ne_eqb}
+use Rattle.std.specs.Prelude.{Ok}
 use Rattle.base.specs.Hex.{pairs_of}
 use Rattle.base.proofs.HexLaws.{pairs_back}
 use Rattle.base.proofs.SearchLaws.{le_or_lt}
@@ -23,7 +24,6 @@ use Rattle.job.specs.Message.{groups_from}
 use Rattle.job.specs.Pages.{kind_at, digits_at, plain_at}
 use Rattle.job.specs.Print.{printed}
 use Rattle.job.specs.Job.{job_of}
-use Rattle.job.specs.declared.JobAnswer.TheVariants.{Accepted}
 use Rattle.job.specs.Accepted.{Sound}
 use Rattle.job.proofs.Accepted.{accepted_job}
 use Rattle.job.proofs.Laws.{text_even, text_hex}
@@ -90,7 +90,7 @@ module _ (l : List ℕ) (s : Sound l) where
   heard_back : HeardBack kind digits
   heard_back = ⊎_elim coded_back data_back (le_or_lt kind 5)
 
-pub page_back : (s : Submission) (n : ℕ) → job_of s ≡ Accepted n → (p : ℕ) → p < n → HeardBack (kind_at s p) (digits_at s p)
+pub page_back : (s : Submission) (n : ℕ) → job_of s ≡ Ok n → (p : ℕ) → p < n → HeardBack (kind_at s p) (digits_at s p)
 page_back s n ok p h =
     let a = accepted_job s n ok in
     let r = a.page p h in

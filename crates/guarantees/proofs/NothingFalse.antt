@@ -6,12 +6,12 @@ use Prim.Native.Nat.{ℕ, ◌≤◌, ◌<◌}
 use native.Mathlib.Omega.{arith}
 use lib.ListN.{length, get_or, length-map}
 use borrow.Author.Tests.{lt-ltb}
+use Rattle.std.specs.Prelude.{Ok}
 use Rattle.base.specs.Passing.{passing}
 use Rattle.base.proofs.PassingLaws.{Within, passing_within}
 use Rattle.codeword.specs.Nearest.{nearest}
 use Rattle.job.specs.Submission.{Submission}
 use Rattle.job.specs.Job.{job_of}
-use Rattle.job.specs.declared.JobAnswer.TheVariants.{Accepted}
 use Rattle.placement.specs.Placement.{content_at}
 use Rattle.transmission.specs.Sending.{Sending, sendings_of, placement_of}
 use Rattle.transmission.specs.Transmission.{transmission_of}
@@ -33,7 +33,7 @@ use Rattle.guarantees.proofs.DamagedLine.{not_lost, few, line_read, line_of}
 use Rattle.guarantees.proofs.Reported.{reported}
 use Rattle.guarantees.proofs.Demand2.{ordered, front}
 
-module _ (s : Submission) (n : ℕ) (ok : job_of s ≡ Accepted n) (words : List ℕ) where
+module _ (s : Submission) (n : ℕ) (ok : job_of s ≡ Ok n) (words : List ℕ) where
   abbrev xs : List Sending
   xs = sendings_of s
 

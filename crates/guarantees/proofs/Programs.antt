@@ -7,12 +7,11 @@ use native.Mathlib.Omega.{arith}
 use lib.ListN.{length, take, drop}
 use lib.Seq.{take_at}
 use borrow.Author.Tests.{le-ltb}
+use Rattle.std.specs.Prelude.{Ok, Err}
 use Rattle.base.proofs.SearchLaws.{le_or_lt}
 use Rattle.job.specs.Submission.{Submission}
 use Rattle.job.specs.Job.{job_of}
-use Rattle.job.specs.Refusal.{job_number, job_place, job_position}
-use Rattle.job.specs.declared.JobAnswer.{JobAnswer}
-use Rattle.job.specs.declared.JobAnswer.TheVariants.{Accepted, Refused}
+use Rattle.job.specs.Refusal.{job_number, job_place, job_position, JobAnswer}
 use Rattle.job.proofs.Accepted.{accepted_short}
 use Rattle.job.proofs.RefusalLaws.{refused_not}
 use Rattle.transmission.specs.Sending.{sendings_of}
@@ -47,7 +46,7 @@ send_is : (s : Submission) → send_prints s ≡ unless_long s.job (answer_text 
 unfolding send_prints
 send_is s = let e = listing.enough s 46062 (omega arith) in rw (e.0, e.1, e.2)
 
-send_listing : (s : Submission) (n : ℕ) → job_of s ≡ Accepted n → send_prints s ≡ listing_text s
+send_listing : (s : Submission) (n : ℕ) → job_of s ≡ Ok n → send_prints s ≡ listing_text s
 send_listing s n ok = send_is s ∙ rw (le-ltb 65536 (length s.job) (omega (arith, accepted_short s n ok)), ok)
 
 -- a listing that gives these lines is read whole, and printed so
@@ -65,7 +64,7 @@ module _ (s lines : List ℕ) {pages : ℕ} {changed : Changes} (g : Gives lines
   read_lines h = rw (le-ltb 65536 (length s) h, read_whole) (g.written fits)
 
 -- the listing of as many words as a transmission has is no input of over 65,536 bytes
-pub received_short : (s : Submission) (n : ℕ) → job_of s ≡ Accepted n → (words : List ℕ) → Received 2 (transmission_of (sendings_of s)) words → length (text_of words) ≤ 65536
+pub received_short : (s : Submission) (n : ℕ) → job_of s ≡ Ok n → (words : List ℕ) → Received 2 (transmission_of (sendings_of s)) words → length (text_of words) ≤ 65536
 received_short s n ok words r =
     omega (arith, text_length 0 words, text_length 0 (transmission_of (sendings_of s)), listing.listing_short s n ok, r.whole)
 
@@ -84,15 +83,15 @@ programs s n ok =
 -- ---- number 10
 
 job_number_lem : (a : JobAnswer) → job_number a ≡ 10 → ⊥
-job_number_lem (Accepted n) e = omega arith
-job_number_lem (Refused why place) e = refused_not 10 refl why e
+job_number_lem (Ok n) e = omega arith
+job_number_lem (Err r) e = refused_not 10 refl r.why e
 
 sent_number : (s : Submission) (words slots : ℕ) → 5118 ≤ words → 48 ≤ slots → (a : JobAnswer) → job_of s ≡ a → report.number_of (report_of s words slots) ≡ 10 → ⊥
 unfolding report_of
-sent_number s words slots h k (Accepted n) e ten = omega (arith, (acceptance s).enough n e words slots h k)
-sent_number s words slots h k (Refused why place) e ten =
-    let is : report.number_of (report.answered (Refused why place) (sendings_of s) words slots) ≡ 10 = rw e at ten in
-    refused_not 10 refl why is
+sent_number s words slots h k (Ok n) e ten = omega (arith, (acceptance s).enough n e words slots h k)
+sent_number s words slots h k (Err r) e ten =
+    let is : report.number_of (report.answered (Err r) (sendings_of s) words slots) ≡ 10 = rw e at ten in
+    refused_not 10 refl r.why is
 
 read_is : (s : List ℕ) (room : ℕ) → 48000 ≤ room
     → read_prints s ≡ unless_long s (answer_text (number_of (read_listing s room)) (place_of (read_listing s room)) 0 (lines_read (read_listing s room) (words_of s)))

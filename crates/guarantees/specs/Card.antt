@@ -1,9 +1,8 @@
 -- Demand 3 of the calls for C: `card_send`, `card_start` and `card_step`. `card_demand3` in proofs/Card.antt proves it of every job.
-use Rattle.std.specs.Prelude.{◌≡◌, List, ◌++◌, map, ℕ, ◌≤◌, length, take, replicate}
+use Rattle.std.specs.Prelude.{◌≡◌, List, ◌++◌, map, ℕ, ◌≤◌, length, take, replicate, Ok}
 use Rattle.base.specs.Lists.{over}
 use Rattle.job.specs.Submission.{Submission}
 use Rattle.job.specs.Job.{job_of}
-use Rattle.job.specs.declared.JobAnswer.TheVariants.{Accepted}
 use Rattle.transmission.specs.Sending.{sendings_of}
 use Rattle.transmission.specs.Transmission.{transmission_of}
 use Rattle.transmission.specs.Report.{report_of, words_sent, slots_sent}
@@ -58,7 +57,7 @@ pub record CardStepping (words : List ℕ) (s : Sender) : Type 0 where
 pub record CardDemand3 (s : Submission) : Type 0 where
   -- every call of `card_send` that declines nothing
   pub sending : (w₀ t₀ w t : List ℕ) (r : CardReport) → CardSend s w₀ t₀ r w t → r.number ≡ 0
-      → (n : ℕ) × (job_of s ≡ Accepted n) × Carried s n r.batches r.words w t
+      → (n : ℕ) × (job_of s ≡ Ok n) × Carried s n r.batches r.words w t
   -- every list of steps from the state that a start leaves which declines nothing
   pub stepping : (old : Sender) (r : CardRefusal) (u : Sender) → CardStart s old r u → r.number ≡ 0
       → CardStepping (transmission_of (sendings_of s)) u

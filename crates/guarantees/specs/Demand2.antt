@@ -1,16 +1,14 @@
 -- Demand 2: what is read of a job's transmission, with at most two flips in each sync and each frame codeword, is the job's own pages,
 -- ordered by slot. `demand2` and `sent_then_read` in proofs/Demand2.antt prove it.
-use Rattle.std.specs.Prelude.{◌≡◌, ℕ, ◌<◌, length, take, drop}
+use Rattle.std.specs.Prelude.{◌≡◌, ℕ, ◌<◌, length, take, drop, Ok}
 use mathlib.Core.List.{List, [], ◌∷◌, ◌++◌, flat_map}
 use Rattle.base.specs.Lists.{over}
 use Rattle.job.specs.Submission.{Submission}
 use Rattle.job.specs.Pages.{plain_at}
 use Rattle.job.specs.Job.{job_of}
-use Rattle.job.specs.declared.JobAnswer.TheVariants.{Accepted}
 use Rattle.transmission.specs.Sending.{sendings_of, sending_at, placement_of}
 use Rattle.transmission.specs.Transmission.{transmission_of}
-use Rattle.transmission.specs.Report.{report_of, words_sent}
-use Rattle.transmission.specs.declared.Report.TheVariants.{Sent}
+use Rattle.transmission.specs.Report.{sent, report_of, words_sent}
 use Rattle.listing.specs.Text.{text_of}
 use Rattle.listing.specs.Words.{words_of}
 use Rattle.reader.specs.Lines.{line_heard}
@@ -34,7 +32,7 @@ lines_in_order s = flat_map (page_line s) (in_slot_order s)
 
 -- the texts' half: a page that is heard as it was sent has the line that its job's line stands for. `line_back` in proofs/LineBack.antt
 abbrev pub LineBack : Type 0
-LineBack = (s : Submission) (n : ℕ) → job_of s ≡ Accepted n → (p : ℕ) → p < n → line_heard (hearing_of (sending_at (sendings_of s) p)) ≡ page_line s p
+LineBack = (s : Submission) (n : ℕ) → job_of s ≡ Ok n → (p : ℕ) → p < n → line_heard (hearing_of (sending_at (sendings_of s) p)) ≡ page_line s p
 
 -- an answer to reading the words behind the preamble that gives the n pages of a job back: nothing lost, no orphans, its lines in
 -- the order of their slots, and as many bits changed as were flipped
@@ -53,7 +51,7 @@ pub record SamePages (s : Submission) (n : ℕ) (words : List ℕ) : Type 0 wher
 -- every accepted job, and all words that are received for its transmission with at most two flips in each sync and each frame codeword
 abbrev pub Demand2 : Type 0
 Demand2 =
-    (s : Submission) (n : ℕ) → job_of s ≡ Accepted n → (words : List ℕ) → Received 2 (transmission_of (sendings_of s)) words → SamePages s n words
+    (s : Submission) (n : ℕ) → job_of s ≡ Ok n → (words : List ℕ) → Received 2 (transmission_of (sendings_of s)) words → SamePages s n words
 
 -- the first m of the words that `send` leaves in a slice that held `old`, where the other has room for so many slots
 abbrev pub words_left : Submission → List ℕ → ℕ → ℕ → List ℕ
@@ -63,7 +61,7 @@ words_left s old slots m = take m (over old (words_sent (report_of s (length old
 pub record ReadAfterSending (s : Submission) (old : List ℕ) (slots m : ℕ) : Type 0 where
   -- the job is accepted, with so many pages
   pub pages : ℕ
-  pub accepted : job_of s ≡ Accepted pages
+  pub accepted : job_of s ≡ Ok pages
   -- they are its transmission
   pub transmitted : words_left s old slots m ≡ transmission_of (sendings_of s)
   -- as they are, and with at most two flips in each sync and each frame codeword, they give the same pages
@@ -72,4 +70,4 @@ pub record ReadAfterSending (s : Submission) (old : List ℕ) (slots m : ℕ) : 
 
 -- every job that `send` reports as sent, whatever the lent slices are
 abbrev pub SentThenRead : Type 0
-SentThenRead = (s : Submission) (old : List ℕ) (slots b m : ℕ) → report_of s (length old) slots ≡ Sent b m → ReadAfterSending s old slots m
+SentThenRead = (s : Submission) (old : List ℕ) (slots b m : ℕ) → report_of s (length old) slots ≡ sent b m → ReadAfterSending s old slots m

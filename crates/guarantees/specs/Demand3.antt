@@ -1,6 +1,7 @@
 -- Demand 3: the slots and batches that are reported of an accepted job keep their bounds, and are those of the placement and those in
 -- the card's words; the steps give the same words. `demand3` in proofs/Demand3.antt proves it of every job.
-use Rattle.std.specs.Prelude.{◌≡◌, true, false, cond, List, ◌⊎◌, ℕ, ◌+◌, ◌-◌, ◌*◌, ◌/◌, ◌^◌, ◌≤◌, ◌<◌, length, get_or, take, eqb, leb}
+use Rattle.job.specs.Refusal.{JobAnswer}
+use Rattle.std.specs.Prelude.{◌≡◌, true, false, cond, List, ◌⊎◌, ℕ, ◌+◌, ◌-◌, ◌*◌, ◌/◌, ◌^◌, ◌≤◌, ◌<◌, length, get_or, take, eqb, leb, Ok}
 use Rattle.base.specs.Hex.{bytes_of}
 use Rattle.base.specs.Lists.{over}
 use Rattle.base.specs.Search.{sum}
@@ -8,16 +9,12 @@ use Rattle.codeword.specs.Code as code
 use Rattle.job.specs.Submission.{Submission}
 use Rattle.job.specs.Pages.{page_at, kind_at, digits_at}
 use Rattle.job.specs.Job.{job_of}
-use Rattle.job.specs.declared.JobAnswer.{JobAnswer}
-use Rattle.job.specs.declared.JobAnswer.TheVariants.{Accepted}
 use Rattle.placement.specs.Placement.{address, content_at, ends_with, batches, slots}
 use Rattle.placement.specs.Promise.{earlier, GoesOut}
 use Rattle.transmission.specs.Sending.{Sending, sending_of, sendings_of, placement_of}
 use Rattle.transmission.specs.Transmission.{address_of, message_of, transmission_of}
 use Rattle.transmission.specs.Transmitted.{slot_index, is_address, addresses_to}
-use Rattle.transmission.specs.Report.{report_of, words_sent, slots_sent, number_of}
-use Rattle.transmission.specs.declared.Report.{Report}
-use Rattle.transmission.specs.declared.Report.TheVariants.{Sent}
+use Rattle.transmission.specs.Report.{Report, sent, report_of, words_sent, slots_sent, number_of}
 use Rattle.sender.specs.declared.Sender.{Sender}
 use Rattle.sender.specs.Stepping.{StartCall, Stepping}
 
@@ -29,12 +26,12 @@ OnlyRoom r = (number_of r ≡ 0) ⊎ (number_of r ≡ 10)
 
 pub record Acceptance (s : Submission) : Type 0 where
   -- an accepted job is one that number 10 alone may keep from being sent, whatever is lent
-  pub accepted : (words slots : ℕ) → OnlyRoom (report_of s words slots) → (n : ℕ) × (job_of s ≡ Accepted n)
-  pub undeclined : (n : ℕ) → job_of s ≡ Accepted n → (words slots : ℕ) → OnlyRoom (report_of s words slots)
+  pub accepted : (words slots : ℕ) → OnlyRoom (report_of s words slots) → (n : ℕ) × (job_of s ≡ Ok n)
+  pub undeclined : (n : ℕ) → job_of s ≡ Ok n → (words slots : ℕ) → OnlyRoom (report_of s words slots)
   -- where 10 doesn't either, sending reports
-  pub reports : (words slots : ℕ) → number_of (report_of s words slots) ≡ 0 → (b : ℕ) × (m : ℕ) × (report_of s words slots ≡ Sent b m)
+  pub reports : (words slots : ℕ) → number_of (report_of s words slots) ≡ 0 → (b : ℕ) × (m : ℕ) × (report_of s words slots ≡ sent b m)
   -- room for 300 batches and 48 pages is enough for every accepted job
-  pub enough : (n : ℕ) → job_of s ≡ Accepted n → (words slots : ℕ) → 5118 ≤ words → 48 ≤ slots → number_of (report_of s words slots) ≡ 0
+  pub enough : (n : ℕ) → job_of s ≡ Ok n → (words slots : ℕ) → 5118 ≤ words → 48 ≤ slots → number_of (report_of s words slots) ≡ 0
   -- starting the steps accepts the same jobs
   pub started : (a : JobAnswer) (t : Sender) → StartCall s a t → a ≡ job_of s
 
@@ -127,14 +124,14 @@ pub record Carried (s : Submission) (n b m : ℕ) (w t : List ℕ) : Type 0 wher
   pub in_words : InWords s n b m w t
   -- a page with a message doesn't start in the slot directly behind another page's message
   pub paused : (i j : ℕ) → i < n → j < n → 0 < count s i → 0 < count s j → slot t j ≡ slot t i + count s i + 1 → ⊥
-  pub steps : (u : Sender) → StartCall s (Accepted n) u → Stepping (take m w) u
+  pub steps : (u : Sender) → StartCall s (Ok n) u → Stepping (take m w) u
 
 -- ---- demand 3 of a job, whatever its bytes are
 
 pub record Demand3 (s : Submission) : Type 0 where
   pub acceptance : Acceptance s
   -- every call of `send` that reports b batches and m words
-  pub sending : (w₀ t₀ w t : List ℕ) (b m : ℕ) → Call s w₀ t₀ (Sent b m) w t → (n : ℕ) × (job_of s ≡ Accepted n) × Carried s n b m w t
+  pub sending : (w₀ t₀ w t : List ℕ) (b m : ℕ) → Call s w₀ t₀ (sent b m) w t → (n : ℕ) × (job_of s ≡ Ok n) × Carried s n b m w t
   -- every list of steps, in place or by value, from the state that a start gives which accepts the job: none is declined, the answers
   -- are the card's words and then done, and a step behind the last word alters nothing
-  pub stepping : (n : ℕ) (u : Sender) → StartCall s (Accepted n) u → Stepping (transmission_of (sendings_of s)) u
+  pub stepping : (n : ℕ) (u : Sender) → StartCall s (Ok n) u → Stepping (transmission_of (sendings_of s)) u

@@ -1,11 +1,10 @@
 -- R-4, a desk receiver for one identity: what the following program prints, beside what a reading program prints for the same standard
 -- input. `desk` and `desk_sent` in proofs/Desk.antt prove it.
-use Rattle.std.specs.Prelude.{◌≡◌, false, List, ℕ, ◌≤◌, length}
+use Rattle.std.specs.Prelude.{◌≡◌, false, List, ℕ, ◌≤◌, length, Ok}
 use Rattle.base.specs.Lines.{split}
 use Rattle.job.specs.Submission.{Submission}
 use Rattle.job.specs.Job.{job_of}
 use Rattle.job.specs.Line.{is_reserved}
-use Rattle.job.specs.declared.JobAnswer.TheVariants.{Accepted}
 use Rattle.transmission.specs.Sending.{sendings_of}
 use Rattle.transmission.specs.Transmission.{transmission_of}
 use Rattle.listing.specs.Text.{text_of}
@@ -39,5 +38,5 @@ pub record Desk (i : ℕ) (s : List ℕ) : Type 0 where
 -- in the order of their slots
 abbrev pub DeskSent : Type 0
 DeskSent =
-    (s : Submission) (n : ℕ) → job_of s ≡ Accepted n → (i : ℕ) → Followable i → (words old left : List ℕ) (m : ℕ)
+    (s : Submission) (n : ℕ) → job_of s ≡ Ok n → (i : ℕ) → Followable i → (words old left : List ℕ) (m : ℕ)
     → Received 2 (transmission_of (sendings_of s)) words → ProgramCall (follow_prints i) (text_of words) old m left → output m left ≡ lines_for i (split (lines_in_order s))

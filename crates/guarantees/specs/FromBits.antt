@@ -7,12 +7,10 @@ use Rattle.codeword.specs.Code.{obeys, sync}
 use Rattle.codeword.specs.Nearest.{distance}
 use Rattle.job.specs.Submission.{Submission}
 use Rattle.job.specs.Job.{job_of}
-use Rattle.job.specs.declared.JobAnswer.TheVariants.{Accepted}
 use Rattle.placement.specs.Placement.{batches}
 use Rattle.transmission.specs.Sending.{sendings_of, placement_of}
 use Rattle.transmission.specs.Transmission.{transmission_of}
-use Rattle.transmission.specs.Report.{report_of}
-use Rattle.transmission.specs.declared.Report.TheVariants.{Sent}
+use Rattle.transmission.specs.Report.{sent, report_of}
 use Rattle.listing.specs.Words.{words_of}
 use Rattle.reader.specs.Reading.{changes_in}
 use Rattle.reader.specs.Answers.{judge_listing, read_listing, lines_read}
@@ -96,15 +94,15 @@ received_from bits t sent = take 18 sent ++ words_from bits t (length sent - 18)
 -- every accepted job, and every recording in which its transmission, but for the preamble, follows whole
 abbrev pub JobFromBits : Type 0
 JobFromBits =
-    (s : Submission) (n : ℕ) → job_of s ≡ Accepted n → (bits : List ℕ) (t : ℕ) → Recorded bits t (drop 18 (transmission_of (sendings_of s)))
+    (s : Submission) (n : ℕ) → job_of s ≡ Ok n → (bits : List ℕ) (t : ℕ) → Recorded bits t (drop 18 (transmission_of (sendings_of s)))
     → (room : ℕ) → PagesReceived s n (received_from bits t (transmission_of (sendings_of s))) bits room
 
 -- every job that `send` reports as sent, whatever the lent slices are, and every recording of the m words that it reports
 abbrev pub SentThenReceived : Type 0
 SentThenReceived =
-    (s : Submission) (old : List ℕ) (slots b m : ℕ) → report_of s (length old) slots ≡ Sent b m → (bits : List ℕ) (t : ℕ)
+    (s : Submission) (old : List ℕ) (slots b m : ℕ) → report_of s (length old) slots ≡ sent b m → (bits : List ℕ) (t : ℕ)
     → Recorded bits t (drop 18 (words_left s old slots m)) → (room : ℕ)
-    → (n : ℕ) × (job_of s ≡ Accepted n) × PagesReceived s n (received_from bits t (words_left s old slots m)) bits room
+    → (n : ℕ) × (job_of s ≡ Ok n) × PagesReceived s n (received_from bits t (words_left s old slots m)) bits room
 
 -- ---- the transmission as it was sent
 
@@ -115,7 +113,7 @@ recording_of words = tab (λ i. get_or words (i / 4) 0 / 2 ^ (24 - 8 * (i % 4)) 
 -- the bits that the card sends, clean preamble first, are such a recording: no 32 bits that start in the preamble lie within two bits of sync
 abbrev pub SentBits : Type 0
 SentBits =
-    (s : Submission) (n : ℕ) → job_of s ≡ Accepted n
+    (s : Submission) (n : ℕ) → job_of s ≡ Ok n
     → Recorded (recording_of (transmission_of (sendings_of s))) 576 (drop 18 (transmission_of (sendings_of s)))
 
 -- ---- the receiving program
@@ -124,5 +122,5 @@ SentBits =
 -- their slots are printed
 abbrev pub ProgramReceives : Type 0
 ProgramReceives =
-    (s : Submission) (n : ℕ) → job_of s ≡ Accepted n → (bits : List ℕ) (t : ℕ) → Recorded bits t (drop 18 (transmission_of (sendings_of s)))
+    (s : Submission) (n : ℕ) → job_of s ≡ Ok n → (bits : List ℕ) (t : ℕ) → Recorded bits t (drop 18 (transmission_of (sendings_of s)))
     → (old left : List ℕ) (m : ℕ) → ProgramCall receive_prints bits old m left → output m left ≡ lines_in_order s

@@ -1,10 +1,9 @@
 -- Demand 2 of the calls that write a job's listing: `list_job`, and `card_list` for C. `listing_back` and `listed_then_read` in
 -- proofs/Listed.antt prove it.
-use Rattle.std.specs.Prelude.{◌≡◌, List, ℕ, ◌≤◌, length, take}
+use Rattle.std.specs.Prelude.{◌≡◌, List, ℕ, ◌≤◌, length, take, Ok}
 use Rattle.base.specs.Lists.{over}
 use Rattle.job.specs.Submission.{Submission}
 use Rattle.job.specs.Job.{job_of}
-use Rattle.job.specs.declared.JobAnswer.TheVariants.{Accepted}
 use Rattle.transmission.specs.Sending.{sendings_of}
 use Rattle.transmission.specs.Transmission.{transmission_of}
 use Rattle.listing.specs.Words.{words_of}
@@ -26,7 +25,7 @@ ListsPages s n text =
 
 -- so it is with the listing of every accepted job
 abbrev pub ListingBack : Type 0
-ListingBack = (s : Submission) (n : ℕ) → job_of s ≡ Accepted n → ListsPages s n (listing_text s)
+ListingBack = (s : Submission) (n : ℕ) → job_of s ≡ Ok n → ListsPages s n (listing_text s)
 
 -- ---- the calls, each by its two promises: with the job s and lent bytes that held `old` it answers r and leaves `left`
 
@@ -42,7 +41,7 @@ pub record CardList (s : Submission) (old : List ℕ) (r : CardBytes) (left : Li
 pub record ReadAfterListing (s : Submission) (n : ℕ) (left : List ℕ) : Type 0 where
   -- the job is accepted, with so many pages
   pub pages : ℕ
-  pub accepted : job_of s ≡ Accepted pages
+  pub accepted : job_of s ≡ Ok pages
   -- the first n bytes are the listing of its transmission
   pub fits : n ≤ length left
   pub listed : take n left ≡ listing_text s

@@ -1,6 +1,6 @@
 -- R-9, nothing false with three wrong bits: what is read of a job's transmission with up to two flips in a sync and three in a frame codeword.
 -- `nothing_false` in proofs/NothingFalse.antt proves it.
-use Rattle.std.specs.Prelude.{◌≡◌, Bool, true, false, cond, ℕ, ◌+◌, ◌*◌, ◌%◌, ◌≤◌, ◌<◌, length, get_or, take, drop}
+use Rattle.std.specs.Prelude.{◌≡◌, Bool, true, false, cond, ℕ, ◌+◌, ◌*◌, ◌%◌, ◌≤◌, ◌<◌, length, get_or, take, drop, Ok}
 use mathlib.Core.List.{List, flat_map}
 use Rattle.base.specs.Lists.{Begins, has}
 use Rattle.codeword.specs.Nearest.{nearest}
@@ -9,13 +9,11 @@ use Rattle.job.specs.Line.{is_data, function_of}
 use Rattle.job.specs.Pages.{page_at, kind_at, digits_at}
 use Rattle.job.specs.Print.{printed}
 use Rattle.job.specs.Job.{job_of}
-use Rattle.job.specs.declared.JobAnswer.TheVariants.{Accepted}
 use Rattle.placement.specs.Placement.{batches, slot_of}
 use Rattle.transmission.specs.Sending.{sendings_of, placement_of}
 use Rattle.transmission.specs.Transmission.{transmission_of}
 use Rattle.transmission.specs.Transmitted.{slot_index}
-use Rattle.transmission.specs.Report.{report_of}
-use Rattle.transmission.specs.declared.Report.TheVariants.{Sent}
+use Rattle.transmission.specs.Report.{sent, report_of}
 use Rattle.listing.specs.Text.{text_of}
 use Rattle.listing.specs.Words.{words_of}
 use Rattle.reader.specs.Meaning.{meaning}
@@ -122,7 +120,7 @@ pub record NothingFalse (s : Submission) (n : ℕ) (words : List ℕ) : Type 0 w
 
 pub record ThreeWrongBits : Type 0 where
   -- every accepted job, and all words that are received for its transmission
-  pub of_job : (s : Submission) (n : ℕ) → job_of s ≡ Accepted n → (words : List ℕ) → Received 3 (transmission_of (sendings_of s)) words → NothingFalse s n words
+  pub of_job : (s : Submission) (n : ℕ) → job_of s ≡ Ok n → (words : List ℕ) → Received 3 (transmission_of (sendings_of s)) words → NothingFalse s n words
   -- every job that `send` reports as sent, whatever the lent slices are, and all words that are received for the m that it reports
-  pub of_sending : (s : Submission) (old : List ℕ) (slots b m : ℕ) → report_of s (length old) slots ≡ Sent b m
-      → (words : List ℕ) → Received 3 (words_left s old slots m) words → (n : ℕ) × (job_of s ≡ Accepted n) × NothingFalse s n words
+  pub of_sending : (s : Submission) (old : List ℕ) (slots b m : ℕ) → report_of s (length old) slots ≡ sent b m
+      → (words : List ℕ) → Received 3 (words_left s old slots m) words → (n : ℕ) × (job_of s ≡ Ok n) × NothingFalse s n words

@@ -1,11 +1,10 @@
 -- The programs: what one prints goes into the other, and their buffers and the header's sizes suffice. `programs` and `sizes` in
 -- proofs/Programs.antt prove it.
-use Rattle.std.specs.Prelude.{◌≡◌, List, ℕ, ◌≤◌, length, take}
+use Rattle.std.specs.Prelude.{◌≡◌, List, ℕ, ◌≤◌, length, take, Ok}
 use Rattle.base.specs.Lists.{over}
 use Rattle.job.specs.Submission.{Submission}
 use Rattle.job.specs.Job.{job_of}
 use Rattle.job.specs.Refusal.{job_number, job_place, job_position}
-use Rattle.job.specs.declared.JobAnswer.TheVariants.{Accepted}
 use Rattle.transmission.specs.Sending.{sendings_of}
 use Rattle.transmission.specs.Transmission.{transmission_of}
 use Rattle.transmission.specs.Report as report
@@ -46,7 +45,7 @@ pub record Programs (s : Submission) : Type 0 where
       → output n left ≡ lines_in_order s
 
 abbrev pub OneIntoTheOther : Type 0
-OneIntoTheOther = (s : Submission) (n : ℕ) → job_of s ≡ Accepted n → Programs s
+OneIntoTheOther = (s : Submission) (n : ℕ) → job_of s ≡ Ok n → Programs s
 
 -- the sizes that suffice for every job, every listing and every recording, in the library, for C and in the programs: no number 10
 pub record Sizes : Type 0 where
