@@ -80,6 +80,7 @@ fn read_one(s: &[u8]) -> Option<u32>
 }
 
 // The words of the line that a text begins with, where it has two with a space between.
+// One function with `read_one`, for either number, is no plainer: it needs a loop for the form and another for the digits.
 fn read_two(s: &[u8]) -> Option<[u32; 2]>
     ensures { result ≡ two_of (line_from s.now 0) }
 {
