@@ -17,7 +17,7 @@ ghost use Rattle.receiver.specs.Answers.{receive_bits, lines_received};
 ghost use Rattle.coverage.specs.Report.{added_to};
 ghost use Rattle.coverage.specs.Rates.{rate_of};
 ghost use Rattle.sender.specs.Start.{started_of};
-ghost use Rattle.sender.specs.Step.{state_from, step_of};
+ghost use Rattle.sender.specs.Step.{step_of};
 ghost use Rattle.card.specs.Answers.{word_for, report_for, bytes_for, reading_for, unread_for, following_for, receiving_for, adding_for, refusal_for, state_for, step_for};
 
 use codeword::{Corrected, Engine};
@@ -25,7 +25,7 @@ use coverage::{Coverage, Rate};
 use follower::{FollowError, Followed};
 use job_listing::Listed;
 use reader::{Changes, Reading};
-use sender::{Answer, Cursor, PageTable, Sender};
+use sender::{Answer, Opening, Sender};
 use transmission::{SendError, Sent};
 
 // A word, 0 or 20, and how many bits are changed.
@@ -111,22 +111,6 @@ pub struct CardStep {
     pub word: u32,
     pub done: u32,
     pub number: u32,
-}
-
-// The answer to a listing, and the report that the caller then keeps.
-#[derive(Clone, Copy)]
-struct CoverageThen {
-    refusal: CardRefusal,
-    coverage: Coverage,
-}
-
-// The answer to a job, and the state that the caller then keeps, without the message words.
-#[derive(Clone, Copy)]
-struct Begun {
-    refusal: CardRefusal,
-    cursor: Cursor,
-    pages: PageTable,
-    sent: [u8; 48],
 }
 
 // The answer to a word as numbers: the corrected word and how many bits are changed, or the word itself and number 20.
@@ -394,30 +378,18 @@ pub fn card_receive(bits: &[u8], out: &mut [u8]) -> CardReceiving
     }
 }
 
-// A listing added to a report, with the answer as numbers.
-fn cover(coverage: Coverage, listing: &[u8]) -> CoverageThen
-    ensures { (result.refusal ≡ adding_for (added_to coverage listing.now).answer) × (result.coverage ≡ (added_to coverage listing.now).coverage) }
-{
-    let covered = coverage::add(coverage, listing);
-    let answer = covered.answer;
-    let after = covered.coverage;
-    CoverageThen {
-        refusal: CardRefusal {
-            place: coverage::place(answer),
-            position: 0,
-            number: coverage::number(answer),
-        },
-        coverage: after,
-    }
-}
-
 // Adds a listing to the report that the caller keeps.
 pub fn card_coverage_add(listing: &[u8], coverage: &mut Coverage) -> CardRefusal
     ensures { (result ≡ adding_for (added_to coverage.old listing.now).answer) × (coverage.new ≡ (added_to coverage.old listing.now).coverage) }
 {
-    let then = cover(*coverage, listing);
-    *coverage = then.coverage;
-    then.refusal
+    let covered = coverage::add(*coverage, listing);
+    *coverage = covered.coverage;
+    let answer = covered.answer;
+    CardRefusal {
+        place: coverage::place(answer),
+        position: 0,
+        number: coverage::number(answer),
+    }
 }
 
 // The rate of a frame, 0 to 7, or of sync, 8, in the report that the caller keeps.
@@ -427,63 +399,29 @@ pub fn card_coverage_rate(coverage: &Coverage, row: u32) -> Rate
     coverage::rate_of(*coverage, row)
 }
 
-// A job with its phrase book started over a state of this cursor, these pages and these flags, whose message words are lent: a declined
-// job leaves all as it was.
-fn begin<'a>(
-    job: &'a [u8],
-    book: &'a [u8],
-    cursor: Cursor,
-    table: PageTable,
-    sent: [u8; 48],
-    words: &mut [u32; 4032],
-) -> Begun
-    ensures { (result.refusal ≡ refusal_for (started_of (with_book job.now book.now)).answer) × (state_from result.pages result.sent result.cursor words.new ≡ state_for (started_of (with_book job.now book.now)).answer (started_of (with_book job.now book.now)).state (state_from table sent cursor words.old)) }
-{
-    let opening = sender::start_with(job, book, words);
-    let answer = opening.answer;
-    let place = job::place(answer);
-    let position = job::position(answer);
-    let number = job::number(answer);
-    let refusal = CardRefusal {
-        place: place,
-        position: position,
-        number: number,
-    };
-    match answer {
-        Ok(_) => {
-            let first = opening.cursor;
-            let laid = opening.pages;
-            let unsent = opening.sent;
-            Begun {
-                refusal: refusal,
-                cursor: first,
-                pages: laid,
-                sent: unsent,
-            }
-        }
-        Err(_) => Begun {
-            refusal: refusal,
-            cursor: cursor,
-            pages: table,
-            sent: sent,
-        },
-    }
-}
-
 // Starts the sending of a job with its phrase book, which is empty where there is none, in the state that the caller keeps. The message
-// words are written where they lie.
+// words are written where they lie. A declined job leaves all as it was.
 pub fn card_start<'a>(job: &'a [u8], book: &'a [u8], state: &mut Sender) -> CardRefusal
     ensures { (result ≡ refusal_for (started_of (with_book job.now book.now)).answer) × (state.new ≡ state_for (started_of (with_book job.now book.now)).answer (started_of (with_book job.now book.now)).state state.old) }
 {
-    let cursor = state.cursor;
-    let pages = state.pages;
-    let sent = state.sent;
-    let begun = begin(job, book, cursor, pages, sent, &mut state.words);
-    let unsent = begun.sent;
-    state.cursor = begun.cursor;
-    state.pages = begun.pages;
-    state.sent = unsent;
-    begun.refusal
+    let Opening {
+        answer,
+        cursor,
+        pages,
+        sent,
+    } = sender::start_with(job, book, &mut state.words);
+    let refusal = CardRefusal {
+        place: job::place(answer),
+        position: job::position(answer),
+        number: job::number(answer),
+    };
+    let Ok(_) = answer else {
+        return refusal;
+    };
+    state.cursor = cursor;
+    state.pages = pages;
+    state.sent = sent;
+    refusal
 }
 
 // A step's answer as numbers.

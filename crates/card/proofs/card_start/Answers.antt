@@ -1,4 +1,4 @@
--- `card::begin` meets its contract. Assumes nothing.
+-- `card::card_start` meets its contract. Assumes nothing.
 use mathlib.Core.Path.{◌≡◌, sym, ap, ◌∙◌}
 use mathlib.Core.List.{List}
 use Prim.Native.Nat.{ℕ}
@@ -13,7 +13,7 @@ use Rattle.sender.specs.Step.{state_from}
 use Rattle.sender.specs.Start.{opening_of, words_by, started_of}
 use Rattle.card.specs.declared.CardRefusal.{CardRefusal}
 use Rattle.card.specs.Answers.{refusal_for, state_for}
-use Rattle.card.proofs.begin.Goals as goal
+use Rattle.card.proofs.card_start.Goals as goal
 
 -- what is answered where the job opens as o and its message words are then `words`, over a state that was old
 module _ (s : Submission) (old : Sender) {o : Opening} {words : List ℕ} (e : o ≡ opening_of (started_of s)) (w : words ≡ words_by (job_of s) (started_of s).state.words old.words) where
@@ -38,23 +38,22 @@ module _ (s : Submission) (old : Sender) {o : Opening} {words : List ℕ} (e : o
       (λ i. state_from old.pages old.sent old.cursor (then_words (Err r) t i))
       ∙ ap (λ (x : JobAnswer). state_for x (started_of s).state old) (sym (answer (Err r) t))
 
-pub returns-in-Ok : goal.returns-in-Ok
-returns-in-Ok c =
+pub returns-in_default : goal.returns-in_default
+returns-in_default c =
     let a = c.args in
-    let s = c.start_with-opening in
-    let submitted = with_book a.job.now a.book.now in
-    let old = state_from a.table a.sent a.cursor a.words.now in (
-      refusal submitted old s.ensures.value s.ensures.words_after c.place-place.ensures c.position-position.ensures
-          c.number-number.ensures,
-      accepts submitted old s.ensures.value s.ensures.words_after _ c.in-Ok.is,
+    let o = c.start_with-answer.ensures in
+    let s = with_book a.job.now a.book.now in
+    let old = a.state.now in (
+      refusal s old o.value o.words_after c.place.ensures c.position.ensures c.number.ensures,
+      declines s old o.value o.words_after c.in_default.is,
     )
 
-pub returns-in-Err : goal.returns-in-Err
-returns-in-Err c =
+pub returns : goal.returns
+returns c =
     let a = c.args in
-    let s = c.start_with-opening in
-    let submitted = with_book a.job.now a.book.now in
-    let old = state_from a.table a.sent a.cursor a.words.now in (
-      refusal submitted old s.ensures.value s.ensures.words_after c.place-place.ensures c.position-position.ensures c.number-number.ensures,
-      declines submitted old s.ensures.value s.ensures.words_after c.in-Err.is,
+    let o = c.start_with-answer.ensures in
+    let s = with_book a.job.now a.book.now in
+    let old = a.state.now in (
+      refusal s old o.value o.words_after c.place.ensures c.position.ensures c.number.ensures,
+      accepts s old o.value o.words_after _ c.in-Ok.is,
     )

@@ -1,8 +1,8 @@
--- `card::cover` meets its contract. Assumes nothing.
+-- `card::card_coverage_add` meets its contract. Assumes nothing.
 use mathlib.Core.Path.{ap, ◌∙◌}
 use Rattle.coverage.specs.Report.{number_of, place_of}
 use Rattle.coverage.specs.declared.Covered.{Covered}
-use Rattle.card.proofs.cover.Goals as goal
+use Rattle.card.proofs.card_coverage_add.Goals as goal
 
 pub returns : goal.returns
 returns c =
