@@ -9,7 +9,7 @@ use Rattle.transmission.specs.Report.{Report}
 use Rattle.job_listing.specs.Listed as listed
 use Rattle.job_listing.specs.declared.Listed.{Listed}
 use Rattle.reader.specs.Answers as reading
-use Rattle.reader.specs.declared.Reading.{Reading}
+use Rattle.reader.specs.Answers.{Reading}
 use Rattle.follower.specs.Answers as following
 use Rattle.follower.specs.declared.Followed.{Followed}
 use Rattle.follower.specs.declared.FollowError.{FollowError}

@@ -24,7 +24,7 @@ use codeword::{Corrected, Engine};
 use coverage::{Coverage, Rate};
 use follower::{FollowError, Followed};
 use job_listing::Listed;
-use reader::{Changes, Reading};
+use reader::{Changes, Read, ReadError};
 use sender::{Answer, Opening, Sender};
 use transmission::{SendError, Sent};
 
@@ -241,29 +241,22 @@ fn unread(place: usize, number: u32) -> CardReading
 }
 
 // A reading's answer as numbers.
-fn reading_numbers(r: Reading) -> CardReading
+fn reading_numbers(r: Result<Read, ReadError>) -> CardReading
     ensures { result ≡ reading_for r }
 {
     let place = reader::place(r);
     let number = reader::number(r);
     match r {
-        Reading::Read {
-            pages,
-            lost,
-            orphans,
-            changed,
-            bytes,
-        } => CardReading {
+        Ok(read) => CardReading {
             place: place,
-            bytes: bytes,
+            bytes: read.bytes,
             number: number,
-            pages: pages,
-            lost: lost,
-            orphans: orphans,
-            changed: changed,
+            pages: read.pages,
+            lost: read.lost,
+            orphans: read.orphans,
+            changed: read.changed,
         },
-        Reading::Declined(_) => unread(place, number),
-        Reading::NoRoom => unread(place, number),
+        Err(_) => unread(place, number),
     }
 }
 

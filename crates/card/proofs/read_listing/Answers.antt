@@ -2,8 +2,7 @@
 use mathlib.Core.Path.{◌∙◌, ap}
 use Rattle.base.specs.Lists.{over}
 use Rattle.listing.specs.Words.{words_of}
-use Rattle.reader.specs.Answers.{lines_read}
-use Rattle.reader.specs.declared.Reading.{Reading}
+use Rattle.reader.specs.Answers.{Reading, lines_read}
 use Rattle.card.specs.Answers.{reading_for}
 use Rattle.card.proofs.read_listing.Goals as goal
 

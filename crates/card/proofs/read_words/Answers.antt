@@ -1,8 +1,7 @@
 -- `card::read_words` meets its contract. Assumes nothing.
 use mathlib.Core.Path.{◌∙◌, ap}
 use Rattle.base.specs.Lists.{over}
-use Rattle.reader.specs.Answers.{lines_read}
-use Rattle.reader.specs.declared.Reading.{Reading}
+use Rattle.reader.specs.Answers.{Reading, lines_read}
 use Rattle.card.specs.Answers.{reading_for}
 use Rattle.card.proofs.read_words.Goals as goal
 

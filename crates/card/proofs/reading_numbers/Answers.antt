@@ -1,8 +1,7 @@
 -- `card::reading_numbers` meets its contract. Assumes nothing.
 use mathlib.Core.Path.{◌≡◌, sym, ap, ◌∙◌}
 use Prim.Native.Nat.{ℕ}
-use Rattle.reader.specs.Answers.{bytes_read, pages_read, lost_read, orphans_read, changed_read, place_of, number_of}
-use Rattle.reader.specs.declared.Reading.{Reading}
+use Rattle.reader.specs.Answers.{Reading, bytes_read, pages_read, lost_read, orphans_read, changed_read, place_of, number_of}
 use Rattle.card.specs.declared.CardReading.{CardReading}
 use Rattle.card.specs.Answers.{reading_for}
 use Rattle.card.proofs.reading_numbers.Goals as goal
@@ -21,11 +20,8 @@ made e p n =
       changed = sym (ap changed_read e) i;
     }
 
-pub returns-in-Read : goal.returns-in-Read
-returns-in-Read c = made c.in-Read.is c.place-place.ensures c.number-number.ensures
+pub returns-in-Ok : goal.returns-in-Ok
+returns-in-Ok c = made c.in-Ok.is c.place-place.ensures c.number-number.ensures
 
-pub returns-in-Declined : goal.returns-in-Declined
-returns-in-Declined c = c.unread.ensures ∙ made c.in-Declined.is c.place-place.ensures c.number-number.ensures
-
-pub returns-in-NoRoom : goal.returns-in-NoRoom
-returns-in-NoRoom c = c.unread-in-NoRoom.ensures ∙ made c.in-NoRoom.is c.place-place.ensures c.number-number.ensures
+pub returns-in-Err : goal.returns-in-Err
+returns-in-Err c = c.unread.ensures ∙ made c.in-Err.is c.place-place.ensures c.number-number.ensures
