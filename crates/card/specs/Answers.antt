@@ -7,7 +7,7 @@ use Rattle.job.specs.Refusal.{job_number, job_place, job_position, JobAnswer, re
 use Rattle.transmission.specs.Report as report
 use Rattle.transmission.specs.Report.{Report}
 use Rattle.job_listing.specs.Listed as listed
-use Rattle.job_listing.specs.declared.Listed.{Listed}
+use Rattle.job_listing.specs.Listed.{Listed}
 use Rattle.reader.specs.Answers as reading
 use Rattle.reader.specs.Answers.{Reading}
 use Rattle.follower.specs.Answers as following

@@ -23,7 +23,7 @@ ghost use Rattle.card.specs.Answers.{word_for, report_for, bytes_for, reading_fo
 use codeword::{Corrected, Engine};
 use coverage::{Coverage, Rate};
 use follower::{FollowError, Followed};
-use job_listing::Listed;
+use job_listing::ListError;
 use reader::{Changes, Read, ReadError};
 use sender::{Answer, Opening, Sender};
 use transmission::{SendError, Sent};
@@ -188,26 +188,20 @@ pub fn card_send<'a>(
 }
 
 // A listing's answer as numbers.
-fn listed_numbers(a: Listed) -> CardBytes
+fn listed_numbers(a: Result<usize, ListError>) -> CardBytes
     ensures { result ≡ bytes_for a }
 {
     let place = job_listing::place(a);
     let position = job_listing::position(a);
     let number = job_listing::number(a);
     match a {
-        Listed::Written(n) => CardBytes {
+        Ok(n) => CardBytes {
             place: place,
             position: position,
             bytes: n,
             number: number,
         },
-        Listed::Declined { why: _, place: _ } => CardBytes {
-            place: place,
-            position: position,
-            bytes: 0,
-            number: number,
-        },
-        Listed::NoRoom => CardBytes {
+        Err(_) => CardBytes {
             place: place,
             position: position,
             bytes: 0,

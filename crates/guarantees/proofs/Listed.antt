@@ -5,6 +5,7 @@ use Prim.Native.Nat.{ℕ, ◌+◌, ◌*◌}
 use native.Mathlib.Omega.{arith}
 use lib.ListN.{length, get_or, take, drop}
 use lib.Seq.{take_at}
+use Rattle.std.specs.Prelude.{Ok, Err}
 use Rattle.base.specs.Lists.{over}
 use Rattle.base.proofs.SearchLaws.{sum_cong, sum_zeros}
 use Rattle.codeword.proofs.NearestLaws.{distance_self}
@@ -14,9 +15,8 @@ use Rattle.job.specs.Submission.{Submission}
 use Rattle.transmission.specs.Sending.{Sending, sendings_of, placement_of}
 use Rattle.transmission.specs.Transmission.{transmission_of}
 use Rattle.transmission.specs.Transmitted.{slot_index}
-use Rattle.job_listing.specs.Listed.{listing_text, listed_of, bytes_listed}
-use Rattle.job_listing.specs.declared.Listed.{Listed}
-use Rattle.job_listing.specs.declared.Listed.TheVariants.{Written, Declined, NoRoom}
+use Rattle.job_listing.specs.Listed.{Listed, listing_text, listed_of, bytes_listed}
+use Rattle.job_listing.specs.declared.ListError.TheVariants.{Job, NoRoom}
 use Rattle.job_listing.proofs.RoomLaws.{listed_written}
 use Rattle.card.specs.Answers.{bytes_for}
 use Rattle.card.specs.declared.CardBytes.{CardBytes}
@@ -49,7 +49,7 @@ listing_back s n ok room =
 
 -- ---- what is written
 
-by_list_job : (s : Submission) (old left : List ℕ) (n : ℕ) → ListJob s old (Written n) left → ReadAfterListing s n left
+by_list_job : (s : Submission) (old left : List ℕ) (n : ℕ) → ListJob s old (Ok n) left → ReadAfterListing s n left
 by_list_job s old left n call =
     let r = listed_written s (length old) n (sym call.answer) in
     let front : take n left ≡ listing_text s = ap (take n) call.bytes ∙ take_at (listing_text s) (drop (length (listing_text s)) old) n r.2 in
@@ -63,16 +63,16 @@ by_list_job s old left n call =
     }
 
 -- number 0 is given for a listing alone
-by_number : (a : Listed) → (bytes_for a).number ≡ 0 → a ≡ Written (bytes_for a).bytes
-by_number (Written n) e = refl
-by_number (Declined why place) e = absurd (refused_not 0 refl why e)
-by_number NoRoom e = absurd (omega arith)
+by_number : (a : Listed) → (bytes_for a).number ≡ 0 → a ≡ Ok (bytes_for a).bytes
+by_number (Ok n) e = refl
+by_number (Err (Job r)) e = absurd (refused_not 0 refl r.why e)
+by_number (Err NoRoom) e = absurd (omega arith)
 
-as_list_job : (s : Submission) (old left : List ℕ) (r : CardBytes) → CardList s old r left → r.number ≡ 0 → ListJob s old (Written r.bytes) left
+as_list_job : (s : Submission) (old left : List ℕ) (r : CardBytes) → CardList s old r left → r.number ≡ 0 → ListJob s old (Ok r.bytes) left
 as_list_job s old left r call e =
     let a = listed_of s (length old) in
-    let is : a ≡ Written r.bytes =
-    by_number a (ap (λ (x : CardBytes). x.number) (sym call.answer) ∙ e) ∙ ap (λ (x : CardBytes). Written x.bytes) (sym call.answer) in
+    let is : a ≡ Ok r.bytes =
+    by_number a (ap (λ (x : CardBytes). x.number) (sym call.answer) ∙ e) ∙ ap (λ (x : CardBytes). Ok x.bytes) (sym call.answer) in
     record { answer = sym is; bytes = call.bytes ∙ ap (λ (x : Listed). over old (bytes_listed x (listing_text s))) is }
 
 pub listed_then_read : ListedThenRead

@@ -8,9 +8,7 @@ use Rattle.transmission.specs.Sending.{sendings_of}
 use Rattle.transmission.specs.Transmission.{transmission_of}
 use Rattle.listing.specs.Words.{words_of}
 use Rattle.reader.specs.Answers.{read_listing}
-use Rattle.job_listing.specs.Listed.{listing_text, listed_of, bytes_listed}
-use Rattle.job_listing.specs.declared.Listed.{Listed}
-use Rattle.job_listing.specs.declared.Listed.TheVariants.{Written}
+use Rattle.job_listing.specs.Listed.{Listed, listing_text, listed_of, bytes_listed}
 use Rattle.card.specs.Answers.{bytes_for}
 use Rattle.card.specs.declared.CardBytes.{CardBytes}
 use Rattle.guarantees.specs.Gives.{Gives}
@@ -52,5 +50,5 @@ pub record ReadAfterListing (s : Submission) (n : ℕ) (left : List ℕ) : Type 
 
 -- every call that doesn't decline, whatever the job and the lent slice are
 pub record ListedThenRead : Type 0 where
-  pub list_job : (s : Submission) (old left : List ℕ) (n : ℕ) → ListJob s old (Written n) left → ReadAfterListing s n left
+  pub list_job : (s : Submission) (old left : List ℕ) (n : ℕ) → ListJob s old (Ok n) left → ReadAfterListing s n left
   pub card_list : (s : Submission) (old left : List ℕ) (r : CardBytes) → CardList s old r left → r.number ≡ 0 → ReadAfterListing s r.bytes left

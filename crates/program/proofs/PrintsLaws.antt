@@ -14,11 +14,12 @@ use Rattle.job.specs.Submission.{Submission}
 use Rattle.job.specs.Refusal as refusal
 use Rattle.job.specs.declared.Refusal.{Refusal}
 use Rattle.job.proofs.RefusalLaws.{refused_not}
+use Rattle.std.specs.Prelude.{Ok, Err}
 use Rattle.job_listing.specs.Listed as listed
-use Rattle.job_listing.specs.Listed.{listing_text, listed_of}
-use Rattle.job_listing.specs.declared.Listed.{Listed}
+use Rattle.job_listing.specs.Listed.{Listed, listing_text, listed_of}
+use Rattle.job_listing.specs.declared.ListError.{ListError}
 use Rattle.job_listing.proofs.RoomLaws.{listed_written}
-use Rattle.job_listing.specs.declared.Listed.TheVariants.{Written, Declined, NoRoom}
+use Rattle.job_listing.specs.declared.ListError.TheVariants.{Job, NoRoom}
 use Rattle.listing.specs.Words.{words_of}
 use Rattle.reader.specs.Reading.{heard_in}
 use Rattle.reader.specs.Lines.{lines_heard}
@@ -86,18 +87,16 @@ module _ (s : Submission) (old : List ℕ) {n : ℕ} {out : List ℕ} where
 
 -- the cases of the answer
 module _ (s : Submission) (old : List ℕ) (h : is_long s.job ≡ false) {out : List ℕ} where
-  pub send_written : (n : ℕ) → length old ≡ 46062 → Written n ≡ listed_of s (length old) → out ≡ over old (listing_text s) → Printed old (send_prints s) n out
-  send_written n room e o = send_is s old (Written n) h room e (sym (listed_written s (length old) n (sym e)).2, o)
+  pub send_written : (n : ℕ) → length old ≡ 46062 → Ok n ≡ listed_of s (length old) → out ≡ over old (listing_text s) → Printed old (send_prints s) n out
+  send_written n room e o = send_is s old (Ok n) h room e (sym (listed_written s (length old) n (sym e)).2, o)
 
-  pub send_declined : (n place : ℕ) (why : Refusal) → length old ≡ 46062 → Declined why place ≡ listed_of s (length old) → Printed old (refusal_line (refusal.number_of why) place (refusal.position_of why)) n out
-      → Printed old (send_prints s) n out
-  send_declined n place why room e p =
-      send_is s old (Declined why place) h room e
-      (same old (refusal_line (refusal.number_of why) place (refusal.position_of why)) (answer_text (refusal.number_of why) place (refusal.position_of why) (listing_text s)) out n
-      (rw (ne_eqb (refusal.number_of why) 0 (refused_not 0 refl why))) p)
-
-  pub send_full : (n : ℕ) → length old ≡ 46062 → NoRoom ≡ listed_of s (length old) → Printed old (refusal_line 10 0 0) n out → Printed old (send_prints s) n out
-  send_full n room e p = send_is s old NoRoom h room e p
+  pub send_refused : (n : ℕ) (why : ListError) → length old ≡ 46062 → Err why ≡ listed_of s (length old)
+      → Printed old (refusal_line (listed.number_of (Err why)) (listed.place_of (Err why)) (listed.position_of (Err why))) n out → Printed old (send_prints s) n out
+  send_refused n (Job r) room e p =
+      send_is s old (Err (Job r)) h room e
+      (same old (refusal_line (refusal.number_of r.why) r.place (refusal.position_of r.why)) (answer_text (refusal.number_of r.why) r.place (refusal.position_of r.why) (listing_text s)) out n
+      (rw (ne_eqb (refusal.number_of r.why) 0 (refused_not 0 refl r.why))) p)
+  send_refused n NoRoom room e p = send_is s old (Err NoRoom) h room e p
 
 -- ---- the reading programs
 

@@ -15,7 +15,6 @@ ghost use Rattle.program.specs.Prints.{is_long, refusal_line, send_prints, read_
 
 use codeword::Engine;
 use coverage::{AddError, Coverage};
-use job_listing::Listed;
 use printed::Printed;
 use std::env::FillError;
 use std::io::{Input, Read};
@@ -159,9 +158,8 @@ pub fn send<'a>(input: &'a [u8], book: &'a [u8], out: &mut [u8; 46062]) -> usize
     let place = job_listing::place(answer);
     let position = job_listing::position(answer);
     match answer {
-        Listed::Written(n) => n,
-        Listed::Declined { why: _, place: _ } => write_refusal(number, place, position, out),
-        Listed::NoRoom => write_refusal(number, place, position, out),
+        Ok(bytes) => bytes,
+        Err(_) => write_refusal(number, place, position, out),
     }
 }
 

@@ -2,8 +2,7 @@
 use mathlib.Core.Path.{◌∙◌, ap}
 use Rattle.base.specs.Lists.{over}
 use Rattle.job.specs.Submission.{with_book}
-use Rattle.job_listing.specs.Listed.{listing_text, bytes_listed}
-use Rattle.job_listing.specs.declared.Listed.{Listed}
+use Rattle.job_listing.specs.Listed.{Listed, listing_text, bytes_listed}
 use Rattle.card.specs.Answers.{bytes_for}
 use Rattle.card.proofs.card_list.Goals as goal
 

@@ -1,8 +1,7 @@
 -- `card::listed_numbers` meets its contract. Assumes nothing.
 use mathlib.Core.Path.{◌≡◌, sym, ap}
 use Prim.Native.Nat.{ℕ}
-use Rattle.job_listing.specs.Listed.{count_listed, place_of, position_of, number_of}
-use Rattle.job_listing.specs.declared.Listed.{Listed}
+use Rattle.job_listing.specs.Listed.{Listed, count_listed, place_of, position_of, number_of}
 use Rattle.card.specs.declared.CardBytes.{CardBytes}
 use Rattle.card.specs.Answers.{bytes_for}
 use Rattle.card.proofs.listed_numbers.Goals as goal
@@ -12,11 +11,8 @@ made : {r s : Listed} {place position number : ℕ} → r ≡ s → place ≡ pl
     → ◌≡◌ {A = CardBytes} (record { place = place; position = position; bytes = count_listed s; number = number }) (bytes_for r)
 made e p q n = λ i. record { place = p i; position = q i; bytes = sym (ap count_listed e) i; number = n i }
 
-pub returns-in-Written : goal.returns-in-Written
-returns-in-Written c = made c.in-Written.is c.place-place.ensures c.position-position.ensures c.number-number.ensures
+pub returns-in-Ok : goal.returns-in-Ok
+returns-in-Ok c = made c.in-Ok.is c.place-place.ensures c.position-position.ensures c.number-number.ensures
 
-pub returns-in-Declined : goal.returns-in-Declined
-returns-in-Declined c = made c.in-Declined.is c.place-place.ensures c.position-position.ensures c.number-number.ensures
-
-pub returns-in-NoRoom : goal.returns-in-NoRoom
-returns-in-NoRoom c = made c.in-NoRoom.is c.place-place.ensures c.position-position.ensures c.number-number.ensures
+pub returns-in-Err : goal.returns-in-Err
+returns-in-Err c = made c.in-Err.is c.place-place.ensures c.position-position.ensures c.number-number.ensures
