@@ -18,8 +18,7 @@ use Rattle.listing.specs.ReadBack.{OfBatches, ReadBack}
 use Rattle.listing.proofs.Back.{read_back}
 use Rattle.reader.specs.Reading.{Hearing, Heard, heard_in}
 use Rattle.reader.specs.Lines.{line_heard, lines_heard}
-use Rattle.reader.specs.Answers.{judge_listing, printed_into, read_stretch, read_words, read_listing}
-use Rattle.reader.specs.declared.Reading.{Reading}
+use Rattle.reader.specs.Answers.{Reading, judge_listing, printed_into, read_stretch, read_words, read_listing}
 use Rattle.reader.proofs.Laws.{sound_batches, sound_words}
 use Rattle.guarantees.specs.Transport.{Received, HeardAs}
 use Rattle.guarantees.specs.Gives.{Gives}

@@ -15,7 +15,7 @@ use Rattle.transmission.proofs.Sendings.{sendable, accepted_sendings}
 use Rattle.transmission.proofs.TransmissionLaws.{transmission_length}
 use Rattle.reader.specs.Reading.{Heard}
 use Rattle.reader.specs.Lines.{lines_heard}
-use Rattle.reader.specs.declared.Reading.{Reading}
+use Rattle.reader.specs.Answers.{Reading}
 use Rattle.guarantees.specs.Order.{InOrder}
 use Rattle.guarantees.specs.Transport.{Received, flips_in, hearing_of, as_sent}
 use Rattle.guarantees.specs.Demand2.{page_line, in_slot_order, lines_in_order, GivesBack, SamePages, Demand2, words_left, SentThenRead}

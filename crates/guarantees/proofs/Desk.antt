@@ -13,10 +13,9 @@ use Rattle.listing.specs.Words.{words_of}
 use Rattle.reader.specs.Reading.{heard_in}
 use Rattle.reader.specs.Lines.{lines_heard}
 use Rattle.reader.specs.Answers as reading
-use Rattle.reader.specs.Answers.{judge_listing, answered, read_listing}
+use Rattle.reader.specs.Answers.{Verdict, judge_listing, answered, read_listing}
 use Rattle.reader.specs.declared.Fault.TheVariants.{Malformed, TooMany, Unsynced}
-use Rattle.reader.specs.declared.Verdict.{Verdict}
-use Rattle.reader.specs.declared.Verdict.TheVariants.{Sound, Faulty}
+use Rattle.std.specs.Prelude.{Ok, Err}
 use Rattle.reader.proofs.RoomLaws as reader
 use Rattle.follower.specs.Pages.{pages_for}
 use Rattle.follower.specs.Answers as following
@@ -41,13 +40,13 @@ module _ (i : ℕ) (good : Followable i) (s : List ℕ) where
   read_by e = rw e
 
   -- there is room for all lines
-  read_fits : judge_listing s ≡ Sound → length (lines_heard (heard_in (words_of s)).pages) ≤ 48000
+  read_fits : judge_listing s ≡ Ok tt → length (lines_heard (heard_in (words_of s)).pages) ≤ 48000
   read_fits e =
       let n = length (lines_heard (heard_in (words_of s)).pages) in
       ⊎_elim (λ l. l) (λ (l : 48000 < n). absurd ((reader.enough).of_listing s 48000 (omega arith) (ap reading.number_of (read_by e) ∙ rw (lt-ltb 48000 n l))))
       (le_or_lt n 48000)
 
-  follow_fits : judge_listing s ≡ Sound → length (lines_heard (pages_for i (words_of s))) ≤ 48000
+  follow_fits : judge_listing s ≡ Ok tt → length (lines_heard (pages_for i (words_of s))) ≤ 48000
   follow_fits e =
       let n = length (lines_heard (pages_for i (words_of s))) in
       ⊎_elim (λ l. l) (λ (l : 48000 < n). absurd ((follower.enough i).of_listing s 48000 (omega arith) (ap following.number_of (follow_by e) ∙ rw (lt-ltb 48000 n l))))
@@ -55,28 +54,28 @@ module _ (i : ℕ) (good : Followable i) (s : List ℕ) where
 
   module _ (short : length s ≤ 65536) where
     -- all can be read: both print lines
-    lines_read_lem : judge_listing s ≡ Sound → read_prints s ≡ lines_heard (heard_in (words_of s)).pages
+    lines_read_lem : judge_listing s ≡ Ok tt → read_prints s ≡ lines_heard (heard_in (words_of s)).pages
     unfolding read_prints
     lines_read_lem e = rw (le-ltb 65536 (length s) short, read_by e, le-ltb 48000 (length (lines_heard (heard_in (words_of s)).pages)) (read_fits e))
 
-    lines_followed_lem : judge_listing s ≡ Sound → follow_prints i s ≡ lines_heard (pages_for i (words_of s))
+    lines_followed_lem : judge_listing s ≡ Ok tt → follow_prints i s ≡ lines_heard (pages_for i (words_of s))
     unfolding follow_prints
     lines_followed_lem e = rw (le-ltb 65536 (length s) short, follow_by e, le-ltb 48000 (length (lines_heard (pages_for i (words_of s)))) (follow_fits e))
 
     -- it can't: both print the same refusal
-    refused : (v : Verdict) → judge_listing s ≡ v → (v ≡ Sound → ⊥) → follow_prints i s ≡ read_prints s
+    refused : (v : Verdict) → judge_listing s ≡ v → (v ≡ Ok tt → ⊥) → follow_prints i s ≡ read_prints s
     unfolding read_prints follow_prints
-    refused Sound e h = absurd (h refl)
-    refused (Faulty why) e h = rw (le-ltb 65536 (length s) short, read_by e, follow_by e)
+    refused (Ok sound) e h = absurd (h refl)
+    refused (Err why) e h = rw (le-ltb 65536 (length s) short, read_by e, follow_by e)
 
   -- what is read whole can be read
-  read_sound : (v : Verdict) → judge_listing s ≡ v → reading.number_of (read_listing s 48000) ≡ 0 → v ≡ Sound
-  read_sound Sound e z = refl
-  read_sound (Faulty (Malformed line)) e z = absurd (omega (arith, ap reading.number_of (read_by e)))
-  read_sound (Faulty (TooMany line)) e z = absurd (omega (arith, ap reading.number_of (read_by e)))
-  read_sound (Faulty (Unsynced batch)) e z = absurd (omega (arith, ap reading.number_of (read_by e)))
+  read_sound : (v : Verdict) → judge_listing s ≡ v → reading.number_of (read_listing s 48000) ≡ 0 → v ≡ Ok tt
+  read_sound (Ok sound) e z = refl
+  read_sound (Err (Malformed line)) e z = absurd (omega (arith, ap reading.number_of (read_by e)))
+  read_sound (Err (TooMany line)) e z = absurd (omega (arith, ap reading.number_of (read_by e)))
+  read_sound (Err (Unsynced batch)) e z = absurd (omega (arith, ap reading.number_of (read_by e)))
 
-  sound_read : judge_listing s ≡ Sound → reading.number_of (read_listing s 48000) ≡ 0
+  sound_read : judge_listing s ≡ Ok tt → reading.number_of (read_listing s 48000) ≡ 0
   sound_read e = ap reading.number_of (read_by e) ∙ rw (le-ltb 48000 (length (lines_heard (heard_in (words_of s)).pages)) (read_fits e))
 
   lines_same : ReadWhole s → follow_prints i s ≡ lines_for i (split (read_prints s))

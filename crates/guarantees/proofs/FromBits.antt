@@ -21,9 +21,8 @@ use Rattle.listing.proofs.Indexed as listing
 use Rattle.listing.proofs.Indexed.{words_indexed, formed}
 use Rattle.reader.specs.Meaning.{meaning}
 use Rattle.reader.specs.Reading.{hear, read_at, ended, slot_word, changes_in, heard_stretch, heard_in}
-use Rattle.reader.specs.Answers.{unsynced, first_unsynced, judge_decoded, judge_listing, printed_into, read_listing, lines_read}
-use Rattle.reader.specs.declared.Reading.{Reading}
-use Rattle.reader.specs.declared.Verdict.TheVariants.{Sound}
+use Rattle.reader.specs.Answers.{Reading, unsynced, first_unsynced, judge_decoded, judge_listing, printed_into, read_listing, lines_read}
+use Rattle.std.specs.Prelude.{Ok}
 use Rattle.reader.proofs.Laws.{readable}
 use Rattle.receiver.specs.Bits.{word_from}
 use Rattle.receiver.specs.Answers.{receive_bits}
@@ -40,11 +39,11 @@ record Form (l : List ℕ) : Type 0 where
   are : listing_of l ≡ well_formed lines batches
 
 -- there are such numbers
-form_of : (l : List ℕ) → judge_listing l ≡ Sound → Form l
+form_of : (l : List ℕ) → judge_listing l ≡ Ok tt → Form l
 unfolding judge_listing
 form_of l = go (listing_of l) refl
   where
-    go : (x : Listing) → listing_of l ≡ x → judge_decoded x (words_of l) ≡ Sound → Form l
+    go : (x : Listing) → listing_of l ≡ x → judge_decoded x (words_of l) ≡ Ok tt → Form l
     go (Ok shape) e f = record { lines = shape.preamble; batches = shape.batches; are = e }
     go (Err why) e f = let z : ◌≡◌ {A = ℕ} 0 1 = cc in absurd (omega arith)
 

@@ -19,10 +19,9 @@ use Rattle.transmission.proofs.Sendings.{sendings_limits, accepted_sendings}
 use Rattle.transmission.proofs.TransmissionLaws.{transmission_length, transmission_fits, batches_least}
 use Rattle.reader.specs.Reading.{Heard, heard_in}
 use Rattle.reader.specs.Answers as reader
-use Rattle.reader.specs.Answers.{unsynced, printed_into, read_stretch, read_words, lines_read}
+use Rattle.reader.specs.Answers.{Reading, unsynced, printed_into, read_stretch, read_words, lines_read}
 use Rattle.reader.specs.declared.Changes.{Changes}
-use Rattle.reader.specs.declared.Reading.{Reading}
-use Rattle.reader.specs.declared.Reading.TheVariants as reading
+use Rattle.std.specs.Prelude.{Ok, Err}
 use Rattle.reader.proofs.Laws.{sound_words}
 use Rattle.receiver.specs.Bits.{word_from}
 use Rattle.receiver.specs.Answers.{receive_bits, lines_received, number_of}
@@ -162,9 +161,8 @@ module _ (xs : List Sending) (a : AllAllowed xs) (bits : List ℕ) (t : ℕ) (re
 
 -- number 10 of one is that of the other
 ten : (b : ℕ) (c : Changes) (r : Reading) → reader.number_of r ≡ 10 → as_received b c r ≡ Err NoRoom
-ten b c (reading.Read pages lost orphans changed bytes) e = absurd (omega arith)
-ten b c (reading.Declined why) e = refl
-ten b c reading.NoRoom e = refl
+ten b c (Ok read) e = absurd (omega arith)
+ten b c (Err why) e = refl
 
 -- ---- an accepted job
 

@@ -19,7 +19,7 @@ use Rattle.transmission.proofs.Sendings.{accepted_sendings}
 use Rattle.reader.specs.Meaning.{meaning}
 use Rattle.reader.specs.Reading.{Heard}
 use Rattle.reader.specs.declared.Meaning.TheVariants.{Lost}
-use Rattle.reader.specs.declared.Reading.{Reading}
+use Rattle.reader.specs.Answers.{Reading}
 use Rattle.guarantees.specs.Transport.{Received, flips_but, is_read, hearing_in, heard_but}
 use Rattle.guarantees.specs.Demand2.{in_slot_order}
 use Rattle.guarantees.specs.Demand3.{word_in}

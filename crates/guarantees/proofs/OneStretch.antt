@@ -13,10 +13,10 @@ use Rattle.codeword.specs.Nearest.{distance, nearest}
 use Rattle.reader.specs.Meaning.{is_sync}
 use Rattle.reader.specs.Reading.{Heard, heard_stretch, heard_in}
 use Rattle.reader.specs.Lines.{lines_heard}
-use Rattle.reader.specs.Answers.{unsynced, printed_into, lines_of}
+use Rattle.reader.specs.Answers.{Reading, unsynced, printed_into, lines_of}
 use Rattle.reader.specs.declared.Changes.{Changes}
-use Rattle.reader.specs.declared.Reading.{Reading}
-use Rattle.reader.specs.declared.Reading.TheVariants as reading
+use Rattle.reader.specs.declared.ReadError.TheVariants as read-error
+use Rattle.std.specs.Prelude.{Ok, Err}
 use Rattle.reader.proofs.SyncLaws.{sync_test}
 use Rattle.receiver.specs.Bits.{bit_count, word_from}
 use Rattle.receiver.specs.Stretches.{is_batch, hunt_from, batches_from, Stretch, stretch_end, stretch_at, stretches_of, batches_found}
@@ -40,10 +40,8 @@ recounted h c = record { pages = h.pages; lost = h.lost; orphans = h.orphans; ch
 
 -- an answer to reading, with the number of batches and this count of changed bits
 abbrev pub as_received : ℕ → Changes → Reading → Result Totals Refusal
-as_received b c (reading.Read pages lost orphans changed bytes) =
-    Ok (record { batches = b; pages = pages; lost = lost; orphans = orphans; changed = c; bytes = bytes })
-as_received b c (reading.Declined why) = Err NoRoom
-as_received b c reading.NoRoom = Err NoRoom
+as_received b c (Ok read) = Ok (record { batches = b; pages = read.pages; lost = read.lost; orphans = read.orphans; changed = c; bytes = read.bytes })
+as_received b c (Err why) = Err NoRoom
 
 module _ (b : ℕ) (h : Heard) (c : Changes) (room : ℕ) where
   -- what the same hearing answers, received and read
@@ -52,7 +50,7 @@ module _ (b : ℕ) (h : Heard) (c : Changes) (room : ℕ) where
     where
       go : (x : Bool) → cond x (Err NoRoom) (Ok (totals_of b (recounted h c)))
           ≡ as_received b c
-          (cond x reading.NoRoom (reading.Read (length h.pages) h.lost h.orphans h.changed (length (lines_heard h.pages))))
+          (cond x (Err read-error.NoRoom) (Ok (record { pages = length h.pages; lost = h.lost; orphans = h.orphans; changed = h.changed; bytes = length (lines_heard h.pages) })))
       go true = refl
       go false = refl
 
@@ -63,7 +61,7 @@ module _ (b : ℕ) (h : Heard) (c : Changes) (room : ℕ) where
     where
       go : (x : Bool) → lines_received (cond x (Err NoRoom) (Ok (totals_of b (recounted h c)))) bits
           ≡ lines_of
-          (cond x reading.NoRoom (reading.Read (length h.pages) h.lost h.orphans h.changed (length (lines_heard h.pages)))) h
+          (cond x (Err read-error.NoRoom) (Ok (record { pages = length h.pages; lost = h.lost; orphans = h.orphans; changed = h.changed; bytes = length (lines_heard h.pages) }))) h
       go true = refl
       go false = ap (λ (x : Heard). lines_heard x.pages) e
 

@@ -12,8 +12,7 @@ use Rattle.transmission.specs.Report.{sent, report_of, words_sent}
 use Rattle.listing.specs.Text.{text_of}
 use Rattle.listing.specs.Words.{words_of}
 use Rattle.reader.specs.Lines.{line_heard}
-use Rattle.reader.specs.Answers.{read_words, read_listing}
-use Rattle.reader.specs.declared.Reading.{Reading}
+use Rattle.reader.specs.Answers.{Reading, read_words, read_listing}
 use Rattle.guarantees.specs.Order.{order, InOrder}
 use Rattle.guarantees.specs.Transport.{Received, flips_in, hearing_of}
 use Rattle.guarantees.specs.Gives.{Gives}

@@ -14,9 +14,8 @@ use Rattle.transmission.specs.Report.{sent, report_of}
 use Rattle.listing.specs.Words.{words_of}
 use Rattle.reader.specs.Reading.{changes_in}
 use Rattle.reader.specs.Answers.{judge_listing, read_listing, lines_read}
-use Rattle.reader.specs.declared.Changes.{Changes}
-use Rattle.reader.specs.declared.Reading.TheVariants as reading
-use Rattle.reader.specs.declared.Verdict.TheVariants.{Sound}
+use Rattle.reader.specs.declared.Read.{Read}
+use Rattle.reader.specs.declared.ReadError.TheVariants as read-error
 use Rattle.receiver.specs.Bits.{bit_count, word_from}
 use Rattle.receiver.specs.Answers.{receive_bits, lines_received}
 use Rattle.receiver.specs.declared.Refusal.TheVariants.{NoRoom}
@@ -45,23 +44,23 @@ words_from bits t n = tab (λ k. word_from bits (t + 32 * k)) n
 
 -- a listing that can be read, of codewords alone
 pub record Clean (l : List ℕ) : Type 0 where
-  pub sound : judge_listing l ≡ Sound
+  pub sound : judge_listing l ≡ Ok tt
   pub codewords : (k : ℕ) → k < length (words_of l) → obeys (get_or (words_of l) k 0) ≡ true
 
 -- what receiving a recording answers and writes, into room for so many bytes, beside what reading this listing does
 pub record AsListed (bits : List ℕ) (t : ℕ) (l : List ℕ) (room : ℕ) : Type 0 where
   -- the listing is read: the counts are the same, the batches are its own, and the changed bits those of the words as they were recorded
-  pub counts : {pages lost orphans : ℕ} {changed : Changes} {bytes : ℕ} → read_listing l room ≡ reading.Read pages lost orphans changed bytes
+  pub counts : {read : Read} → read_listing l room ≡ Ok read
       → receive_bits bits room ≡ Ok (record {
         batches = length (words_of l) / 17;
-        pages = pages;
-        lost = lost;
-        orphans = orphans;
+        pages = read.pages;
+        lost = read.lost;
+        orphans = read.orphans;
         changed = changes_in (words_from bits t (length (words_of l)));
-        bytes = bytes;
+        bytes = read.bytes;
       })
   -- there is no room for its lines: number 10 of both
-  pub no_room : read_listing l room ≡ reading.NoRoom → receive_bits bits room ≡ Err NoRoom
+  pub no_room : read_listing l room ≡ Err read-error.NoRoom → receive_bits bits room ≡ Err NoRoom
   -- what is written is the same
   pub lines : lines_received (receive_bits bits room) bits ≡ lines_read (read_listing l room) (words_of l)
 

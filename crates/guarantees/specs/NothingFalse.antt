@@ -18,9 +18,8 @@ use Rattle.listing.specs.Text.{text_of}
 use Rattle.listing.specs.Words.{words_of}
 use Rattle.reader.specs.Meaning.{meaning}
 use Rattle.reader.specs.Lines.{digits_heard}
-use Rattle.reader.specs.Answers.{read_words, read_listing}
+use Rattle.reader.specs.Answers.{Reading, read_words, read_listing}
 use Rattle.reader.specs.declared.Meaning.TheVariants.{Lost}
-use Rattle.reader.specs.declared.Reading.{Reading}
 use Rattle.guarantees.specs.Transport.{flip_count, Received, flips_but, lost_at, lost_to, orphans_to}
 use Rattle.guarantees.specs.Gives.{Gives}
 use Rattle.guarantees.specs.Demand2.{page_line, words_left}
