@@ -22,7 +22,6 @@ use Rattle.listing.proofs.Indexed.{words_indexed, formed}
 use Rattle.reader.specs.Meaning.{meaning}
 use Rattle.reader.specs.Reading.{hear, read_at, ended, slot_word, changes_in, heard_stretch, heard_in}
 use Rattle.reader.specs.Answers.{Reading, unsynced, first_unsynced, judge_decoded, judge_listing, printed_into, read_listing, lines_read}
-use Rattle.std.specs.Prelude.{Ok}
 use Rattle.reader.proofs.Laws.{readable}
 use Rattle.receiver.specs.Bits.{word_from}
 use Rattle.receiver.specs.Answers.{receive_bits}

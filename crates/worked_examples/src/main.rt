@@ -7,7 +7,7 @@ ghost use Rattle.io.specs.Counts.{IsPrefixLen};
 
 use codeword::{Codeword, Corrected, Engine};
 use job::Refused;
-use reader::Reading;
+use reader::ReadError;
 use std::io::Read;
 use text::Coding;
 
@@ -286,37 +286,30 @@ fn print_bars(rt: &impl Print, bytes: &[u8], n: usize) {
     }
 }
 
-fn print_refused(rt: &impl Print, answer: Reading) {
+fn print_refused(rt: &impl Print, answer: Result<reader::Read, ReadError>) {
     print(rt, b" refused ");
     print_number(rt, reader::number(answer) as u64);
     print(rt, b" place ");
     print_number(rt, reader::place(answer) as u64);
 }
 
-fn print_reading(rt: &impl Print, answer: Reading, lines: &[u8]) {
+fn print_reading(rt: &impl Print, answer: Result<reader::Read, ReadError>, lines: &[u8]) {
     match answer {
-        Reading::Read {
-            pages,
-            lost,
-            orphans,
-            changed,
-            bytes,
-        } => {
+        Ok(read) => {
             print(rt, b" pages ");
-            print_number(rt, pages as u64);
+            print_number(rt, read.pages as u64);
             print(rt, b" lost ");
-            print_number(rt, lost as u64);
+            print_number(rt, read.lost as u64);
             print(rt, b" orphans ");
-            print_number(rt, orphans as u64);
+            print_number(rt, read.orphans as u64);
             print(rt, b" changed ");
-            print_number(rt, changed.slots as u64);
+            print_number(rt, read.changed.slots as u64);
             print(rt, b" syncs ");
-            print_number(rt, changed.syncs as u64);
+            print_number(rt, read.changed.syncs as u64);
             print(rt, b" ");
-            print_bars(rt, lines, bytes);
+            print_bars(rt, lines, read.bytes);
         }
-        Reading::Declined(_) => print_refused(rt, answer),
-        Reading::NoRoom => print_refused(rt, answer),
+        Err(_) => print_refused(rt, answer),
     }
 }
 
