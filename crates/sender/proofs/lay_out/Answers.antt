@@ -15,7 +15,7 @@ use Rattle.job.specs.Pages.{no_page, pages_of, digits_in}
 use Rattle.job.specs.Job.{job_of, reading_of, answer_with, table_of}
 use Rattle.job.specs.declared.Pages.{Pages}
 use Rattle.job.specs.declared.Page.{Page}
-use Rattle.job.specs.declared.JobAnswer.TheVariants.{Accepted}
+use Rattle.std.specs.Prelude.{Ok}
 use Rattle.transmission.specs.Sending.{Sending, sending_of, sendings_of, sending_at}
 use Rattle.transmission.proofs.Sendings.{sendings_count, accepted_sendings}
 use Rattle.transmission.proofs.Planned.{page_sending, few_digits, groups_are}
@@ -28,11 +28,11 @@ use Rattle.sender.proofs.lay_out.Goals as goal
 abbrev counting : PageTable → ℕ → PageTable
 counting p n = record { count = n; addresses = p.addresses; starts = p.starts; lengths = p.lengths; frames = p.frames }
 
-few_pages : (s : Submission) (n : ℕ) → job_of s ≡ Accepted n → n ≤ 48
+few_pages : (s : Submission) (n : ℕ) → job_of s ≡ Ok n → n ≤ 48
 few_pages s n ok = omega (arith, (accepted_sendings s n ok).most, sendings_count s n ok)
 
 -- a job's pages lie in an array of 48
-full : (s : Submission) (n : ℕ) → job_of s ≡ Accepted n → 48 ≤ length (reading_of s).pages
+full : (s : Submission) (n : ℕ) → job_of s ≡ Ok n → 48 ≤ length (reading_of s).pages
 unfolding reading_of answer_with table_of
 full s n ok =
     rw ok
