@@ -439,6 +439,7 @@ fn hear_all(symbols: &[u32], cut: bool, digits: &mut [u8], lines: &mut [u8]) -> 
 {
     let mut p = Progress::default();
     let mut s = 0;
+    // A loop, since a round passes runs of any length: no iterator has this step.
     loop {
         let e = message_end(symbols, s);
         p = hear_messages(p, e - s);
