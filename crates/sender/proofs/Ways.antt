@@ -1,4 +1,4 @@
--- The ways through a step, each as an equation: the plan's proofs and the claim about every list of steps both go by them. Assumes nothing.
+-- The ways through a step, each as an equation: the proofs of a step and the claim about every list of steps both go by them. Assumes nothing.
 use mathlib.Core.Path.{◌≡◌, refl, ap, ◌∙◌}
 use Prim.Native.Nat.{ℕ}
 use mathlib.Core.Bool.{Bool, true, false, cond}
