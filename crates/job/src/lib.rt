@@ -423,10 +423,12 @@ fn read_lines(job: &[u8], book: &[u8]) -> Pages
 {
     let mut pages = no_pages();
     let mut at = 0;
-    let mut k = 0;
-    while at < job.len() {
-        if 48 <= k {
-            return declined(Refusal::TooManyLines, 49);
+    for k in 0..48 {
+        if job.len() <= at {
+            return Pages {
+                answer: Ok(k),
+                pages,
+            };
         }
         let end = base::line_end(job, at);
         if job.len() <= end {
@@ -437,10 +439,12 @@ fn read_lines(job: &[u8], book: &[u8]) -> Pages
             Err(why) => return declined(why, k + 1),
         }
         at = end + 1;
-        k += 1;
+    }
+    if at < job.len() {
+        return declined(Refusal::TooManyLines, 49);
     }
     Pages {
-        answer: Ok(k),
+        answer: Ok(48),
         pages,
     }
 }
