@@ -8,7 +8,8 @@ ghost use Rattle.base.specs.Lines.{line_end};
 ghost use Rattle.base.specs.Part.{PointsInto};
 
 // The value of an upper-case hexadecimal digit; 16 for any other byte. One arm a digit: a table, where two ranges would be branches
-// that no processor foresees. 16 and no Option: with one `text::char_run` jumps by a digit, mispredicted at 0.84 of random characters.
+// that no processor foresees. 16 and no Option: with one `text::char_run` jumps by a digit, foreseen wrongly at 0.84 of random
+// characters, and misses the rows of docs/PERFORMANCE.md for jobs with texts.
 #[tactic(auto, unfolding(crate::specs::Hex::digit_value, crate::specs::Hex::is_hex, crate::specs::Hex::hex_of))]
 pub fn digit_value(b: u8) -> u8
     ensures { result ≡ digit_value b }
@@ -41,7 +42,8 @@ pub fn is_hex(b: u8) -> bool
     digit_value(b) < 16
 }
 
-// The value of an upper-case hexadecimal digit; 0 for any other byte.
+// The value of an upper-case hexadecimal digit; 0 for any other byte. 0 and no Option: callers take any bytes,
+// and `hex_of` gives each a value.
 pub fn hex_value(b: u8) -> u8
     ensures { result ≡ hex_of b }
 {
@@ -65,6 +67,7 @@ pub fn hex_run(s: &[u8]) -> usize
 }
 
 // The number that the digits of the slice write, its low 32 bits where there are more than eight.
+// Beside `hex_word`: this one takes any bytes and cannot fail.
 pub fn hex_number(s: &[u8]) -> u32
     ensures { result ≡ hex_number 0 s.now % 2 ^ 32 }
 {
@@ -92,6 +95,7 @@ pub fn hex_word(s: &[u8]) -> Option<u32>
 }
 
 // Fills the slice with the lowest digits of a number, the most significant first.
+// By index: after `iter_mut().rev()` a proof knows no list of what is written.
 pub fn write_digits(out: &mut [u8], number: u32)
     ensures { out.new ≡ digits_of (length out.old) number }
 {
@@ -116,6 +120,7 @@ pub fn pair_byte(pairs: &[u8], k: usize, fill: u8) -> u8
 }
 
 // Where the line that starts at an index ends: the index of its newline, or of the end where there is none.
+// The end and no Option: `line_end` in specs, which CLAIMS names, is total; `phrases::newline` tells the two apart.
 pub fn line_end(s: &[u8], at: usize) -> usize
     ensures { result ≡ line_end s.now at }
 {

@@ -118,8 +118,8 @@ fn width(c: Coding) -> usize
     }
 }
 
-// Four bits turned round. One arm a value: a table, where turning them would be a loop. With a digit's value or a value's digit it is one
-// table all the same.
+// Four bits turned round. One arm a value: a table, where turning them would be a loop. Together with `hex_value` or `hex_digit` it is
+// still one table when compiled.
 #[tactic(auto, unfolding(crate::specs::Coding::turned_of, crate::specs::Coding::bits_from))]
 fn turned_bits(bits: u32) -> u8
     ensures { result ≡ turned_of 4 (bits % 16) }
@@ -152,7 +152,8 @@ fn turned_digit(b: u8) -> u32
     u32::from(turned_bits(value))
 }
 
-// The value of a numeric character; 0 for any other byte.
+// The value of a numeric character; 0 for any other byte. 0 and no Option: callers take any bytes, and `value_of` gives
+// each a value.
 fn value_or_zero(b: u8) -> u8
     ensures { result ≡ value_of Numeric b }
 {
@@ -192,7 +193,7 @@ const NO_BITS: Bits = Bits {
     next: 0,
 };
 
-// Characters behind the bits until there are 20.
+// Characters behind the bits until there are 20. No `for`: how many characters it takes depends on the bits that are left.
 fn refill(c: Coding, text: &[u8], mut b: Bits) -> Bits
     requires { Few b }
     ensures { Refilled c (bytes_of text.now) b result }
@@ -266,6 +267,7 @@ fn numeric_length(groups: &[u32]) -> usize
 }
 
 // Writes the numeric text of groups as pairs of digits, and answers how many digits they are.
+// By index: after `chunks_exact_mut` a proof has only the length.
 fn write_numeric(groups: &[u32], digits: &mut [u8]) -> usize
     requires { 10 * length groups.now ≤ length digits.old }
     ensures value { result ≡ length (heard_digits Numeric groups.now) }
