@@ -14,6 +14,7 @@ mod engines;
 mod slow;
 
 // A word of 32 bits that obeys the code: bit 1, sent first, is the top bit.
+// No ghost field says that it obeys the code: the definition `answer` builds one from any word.
 #[derive(Clone, Copy, Debug, PartialEq, Eq)]
 pub struct Codeword(u32);
 
@@ -124,7 +125,7 @@ fn remainder(polynomial: u32) -> u32
     ((p ^ v ^ (v << 5) ^ (v << 6)) % 1024) as u32
 }
 
-// 1 where the number of ones of a word is odd.
+// 1 where the number of ones of a word is odd. A number and no bool: it is added and xored.
 fn parity(word: u32) -> u32
     ensures { result ≡ weight word % 2 }
 {
@@ -144,6 +145,7 @@ fn checks(word: u32) -> u64
 }
 
 // The wrong ones of bits 1 to 31 where they are one or two; no bit where they are more. The checks are not all 0.
+// 0 and no Option where they are more: the formula gives it.
 //
 // In the field of 32 elements let a be a root of x^5 + x^2 + 1; a^3 is then a root of the divisor's other factor, which is
 // x^5 + x^4 + x^3 + x^2 + 1. Let s and t be the values of p at a and a^3. A codeword has 0 and 0, so s and t are the values of the

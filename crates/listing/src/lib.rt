@@ -30,6 +30,7 @@ pub struct Shape {
 }
 
 // What a byte string is as a listing, and the words of its batches. Zeros stand behind them, and everywhere where it is declined.
+// The answer beside the words and not around them: `decoded_of` says what the array holds of a refused text too; no heap.
 #[derive(Clone, Copy)]
 pub struct Decoded {
     pub listing: Result<Shape, Fault>,
@@ -46,7 +47,7 @@ pub fn batch_count(l: Result<Shape, Fault>) -> usize
     }
 }
 
-// The number of a byte string in the table; 0 where it is a listing.
+// The number of a byte string in the table; 0 where it is a listing: the C interface answers so.
 pub fn number(l: Result<Shape, Fault>) -> u32
     ensures { result ≡ number_of l }
 {
@@ -57,7 +58,7 @@ pub fn number(l: Result<Shape, Fault>) -> u32
     }
 }
 
-// Its place; 0 where it is a listing.
+// Its place; 0 where it is a listing: the C interface answers so.
 pub fn place(l: Result<Shape, Fault>) -> usize
     ensures { result ≡ place_of l }
 {
@@ -142,6 +143,7 @@ fn read_batches(s: &[u8], p: usize, words: &mut [u32]) -> Result<Shape, Fault>
     let mut at = 18 * p;
     let mut k = 0;
     let mut q = 0;
+    // A walk: a line's length is known by its number, and it is looked at only if the one before is right.
     while at < s.len() {
         let line = p + q + 1;
         if q == 2700 {
@@ -213,6 +215,7 @@ pub fn write(words: &[u32], out: &mut [u8]) -> Option<usize>
         return None;
     }
     for (k, word) in words.iter().enumerate() {
+        // By index: after `chunks_exact_mut` a proof has only the pieces' length.
         let at = 9 * k;
         let stop = at + 8;
         base::write_digits(&mut out[at..stop], *word);

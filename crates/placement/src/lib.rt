@@ -7,6 +7,7 @@ ghost use Rattle.placement.specs.Placement.{is_sendable, job_of, may_start, stat
 ghost use Rattle.placement.specs.Searching.{starts_at, FirstFrom};
 
 // Every mark, one more than a slot, to the slot.
+// Marks and no Option: the slots are written over the lent numbers themselves, and `may_start`, which docs/CLAIMS.md names, takes a mark.
 fn unmark(marks: &mut [u32])
     ensures { marks.new ≡ map pred marks.old }
 {
@@ -81,6 +82,7 @@ fn run(frames: &[u8], words: &[u32], marks: &mut [u32]) -> u32
     let mut left: u32 = 0;
     let mut sent: usize = 0;
     let mut pause = false;
+    // No `for`: how many slots there are is what it finds.
     loop {
         let message = 0 < left;
         if message {
@@ -121,6 +123,7 @@ fn place_exact(frames: &[u8], words: &[u32], out: &mut [u32]) -> u32
 // Places a job, given by its pages' frames and numbers of message codewords: the slots of the addresses go to the front of `out`, in
 // the job's order, and the answer is the number of batches, which is 1 or more. Where the job cannot be sent, or `out` has fewer places
 // than the job has pages, there is no answer and nothing is written.
+// Two lists and no struct of both: `Limits`, `batches_in` and `slots_in` speak of two lists.
 #[tactic(auto, using(crate::proofs::Placing::no_room, crate::proofs::Placing::unsendable, crate::proofs::Placing::placed_in))]
 pub fn place(frames: &[u8], words: &[u32], out: &mut [u32]) -> Option<u32>
     ensures value { result ≡ batches_in frames.now words.now (length out.old) }

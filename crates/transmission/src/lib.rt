@@ -201,6 +201,7 @@ fn send_pages<'a>(
     ensures words_after { words.new ≡ over words.old (words_sent result (sendings_of (with_book job.now book.now))) }
     ensures slots_after { slots.new ≡ over slots.old (slots_sent result (sendings_of (with_book job.now book.now))) }
 {
+    // Arrays of 48 and the number n: fixed memory, and `placement::place` takes the two lists.
     let mut frames = [0u8; 48];
     let mut groups = [0u32; 48];
     for (k, page) in read.pages[..n].iter().enumerate() {
