@@ -32,7 +32,7 @@ pub enum Meaning {
     Message(u32),
 }
 
-// Why words or a listing can't be read.
+// Why words or a listing can't be read. The 0 for words is no Option: `judge_words` promises it, as the place of document 01's table.
 #[derive(Clone, Copy)]
 pub enum Fault {
     // Number 21, with the line; 0 for words.
@@ -97,8 +97,8 @@ struct Progress {
     bytes: usize,
 }
 
-// The symbol of a lost word. Any other word's symbol is the 21 information bits of its codeword. Symbols are numbers, and no enum, since
-// memory is fixed: an enum with its values takes twelve bytes, not four.
+// The symbol of a lost word. Any other word's symbol is the 21 information bits of its codeword. Symbols are numbers and no enum: the sizes
+// of the stack that include/spuggenor.h names hold for four bytes a slot, and an enum with its values takes twelve.
 const LOST: u32 = 0x20_0000;
 
 // The symbol of idle.
@@ -238,7 +238,8 @@ fn write_page(function: u8, groups: &[u32], digits: &mut [u8]) -> usize
     }
 }
 
-// A page's kind, by its function and its groups.
+// A page's kind, by its function and its groups. Both stay numbers, as `job::Page.kind` does: the contracts of `print_heard` and of
+// `job::print_line` take every number.
 fn kind(function: u8, groups: &[u32]) -> u8
     requires { function < 4 }
     ensures { result ≡ kind_heard function groups.now }
@@ -503,7 +504,8 @@ fn read_synced(
     read_into(&symbols[..slots], cut, changed, digits, lines, out)
 }
 
-// Reads batches that all begin with sync, with room for S slots, D digits and L bytes of lines.
+// Reads batches that all begin with sync, with room for S slots, D digits and L bytes of lines: three sizes, since Rattle has no computed
+// const argument.
 fn read_within<const S: usize, const D: usize, const L: usize>(
     engine: Engine,
     words: &[u32],

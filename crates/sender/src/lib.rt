@@ -19,7 +19,8 @@ ghost use Rattle.sender.specs.Start.{words_of, pages_from, cursor_at, no_pages, 
 use codeword::Codeword;
 use job::Refused;
 
-// Where the transmission stands. A flag is set where it is not 0.
+// Where the transmission stands. A flag is set where it is not 0: flags are bytes, since C keeps the state (include/spuggenor.h), of which
+// any bytes must be a value.
 #[repr(C)]
 #[derive(Clone, Copy)]
 pub struct Cursor {
@@ -39,7 +40,7 @@ pub struct Cursor {
     pub message: u8,
 }
 
-// The pages of a job, which no step alters.
+// The pages of a job, which no step alters. Arrays side by side: C's layout (include/spuggenor.h).
 #[repr(C)]
 #[derive(Clone, Copy)]
 pub struct PageTable {
@@ -60,7 +61,7 @@ pub struct PageTable {
 pub struct Sender {
     pub cursor: Cursor,
     pub pages: PageTable,
-    // Flags: the page is sent.
+    // Flags, bytes as the cursor's: the page is sent.
     pub sent: [u8; 48],
     // The message words of all pages.
     pub words: [u32; 4032],
@@ -129,7 +130,7 @@ impl PageTable {
         ensures { Joined (λ i. get_or self.now.starts i 0 + get_or self.now.lengths i 0 + 63) self.now.count result }
     {
         let mut joined = 0;
-        // By index, since the two arrays are C's: over a zip of them the proof of the invariant did not close.
+        // By index: over a zip of the two arrays the proof of the invariant did not close.
         for i in 0..self.count as usize {
             joined |= lifted_end(self.starts[i], self.lengths[i]);
         }
