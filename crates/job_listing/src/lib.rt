@@ -10,7 +10,7 @@ ghost use Rattle.job_listing.specs.Listed.{listing_text, listed_of, written_into
 use job::Refused;
 use transmission::SendError;
 
-// Why a job is not listed.
+// Why a job is not listed. Not the type of `transmission`: the functions that give an answer its number are each crate's own.
 #[derive(Clone, Copy, PartialEq, Eq)]
 pub enum ListError {
     // The job's own refusal, with its place.

@@ -1,5 +1,5 @@
 // The reading program, on the fast engine: a listing on standard input, its page lines in slot order or one line `refused N place P` on
-// standard output. `program::read` says which.
+// standard output. `program::read` says which. Two programs, one for each engine, since request R-14 asks for the slow one too.
 #![tactic(auto)]
 
 use codeword::Engine;

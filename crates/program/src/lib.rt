@@ -1,7 +1,7 @@
 // What the programs do: standard input in, for the sending one with a phrase book and for the following one with an identity, for the
 // coverage one files instead, and the bytes out that are printed (document 01, "The two programs", and requests R-4, R-6, R-10 and R-12).
 // Each program is one call of `send`, `read`, `follow`, `receive` or `cover`, before the last of which each file is added by
-// `coverage::add`, and the few lines around it that read and write.
+// `coverage::add`. Around it `run` reads the input and has the answer printed; only the coverage program, which reads files, does not go by it.
 #![tactic(auto)]
 
 ghost use Rattle.std.specs.Prelude.{◌≡◌, ◌+◌, ◌≤◌, ◌<◌, length, take, IfOk, IfSome};
@@ -37,6 +37,7 @@ fn read_into<R: Read>(reader: &mut R, input: &mut [u8]) -> Result<usize, Unread>
     ensures end { IfOk result (λ n. n < length input.new → IsAtEnd (R.remaining reader.new)) }
 {
     let mut n = 0;
+    // No `for`: a read gives any number of bytes.
     while n < input.len() {
         let Ok(more) = reader.read(&mut input[n..]) else {
             return Err(Unread { bytes: n });
@@ -142,6 +143,8 @@ fn write_coverage(c: Coverage, out: &mut [u8]) -> usize
     report.listings(&c);
     report.write(out)
 }
+
+// `send`, `read`, `follow` and `receive` have no common frame: a contract that takes a closure has to say what it returns and writes.
 
 // What the sending program prints for its standard input, a job, with its phrase book, which is empty where there is none, over the front of
 // the bytes; answers how many they are.

@@ -8,7 +8,7 @@ ghost use Rattle.program.specs.Prints.{position_part};
 use coverage::{Coverage, Rate};
 use std::marker::Model;
 
-// Room for the longest report. Clauses see the bytes that are there.
+// Room for the longest report. Clauses see the bytes that are there. No String: the library has no heap.
 #[derive(Drop)]
 pub(crate) struct Printed {
     bytes: [u8; 2210],

@@ -389,6 +389,7 @@ fn run(rt: &impl Print, line: &[u8]) {
 
 fn run_all(rt: &impl Print, input: &[u8]) {
     let mut at: usize = 0;
+    // By line_end and no `split`, which gives an empty part behind the last newline.
     while at < input.len() {
         let end = base::line_end(input, at);
         run(rt, &input[at..end]);
@@ -397,10 +398,12 @@ fn run_all(rt: &impl Print, input: &[u8]) {
 }
 
 // Reads up to the reader's end, or until the slice is full or a read fails, and answers how many bytes it wrote over the front.
+// Not by `read_input` of `program`, on which this crate would then stand for one loop alone.
 fn read_full<R: Read>(reader: &mut R, input: &mut [u8]) -> usize
     ensures { IsPrefixLen result input.new }
 {
     let mut n = 0;
+    // No `for`: a read gives any number of bytes.
     while n < input.len() {
         let Ok(more) = reader.read(&mut input[n..]) else {
             break;
