@@ -42,7 +42,8 @@ pub enum Refusal {
 
 // A page: its identity, its kind, the byte at which the digits of its text start, of the book where the kind is 9, else of the job, and
 // how many they are. No byte of it is unused, so that an array of them is cleared at once.
-// The kind stays a number: the contracts of `function`, `groups` and `write_groups` take every u32.
+// The kind stays a number: the contracts of `function`, `groups` and `write_groups` take every u32. A start and a length and no slice: the
+// pages of `reading_of` are numbers, and `page_text` promises where the part points.
 #[derive(Clone, Copy)]
 pub struct Page {
     pub identity: u32,
@@ -51,7 +52,8 @@ pub struct Page {
     pub length: usize,
 }
 
-// Why a job is declined, and where: the place is a line of the job, or of a bad book, counted from 1; 0 for the job as a whole.
+// Why a job is declined, and where: the place is a line of the job, or of a bad book, counted from 1; 0 for the job as a whole,
+// as document 01's table has it.
 #[derive(Clone, Copy, PartialEq, Eq)]
 pub struct Refused {
     pub why: Refusal,
@@ -59,7 +61,8 @@ pub struct Refused {
 }
 
 // A job's answer, the number of its pages or its refusal, and the pages of an accepted one. Zeros stand behind the last page, and
-// everywhere where the job is refused.
+// everywhere where the job is refused. The answer stands beside the pages and not around them, since `reading_of` says what these are in a
+// refused job too; their memory is fixed.
 #[derive(Clone, Copy)]
 pub struct Pages {
     pub answer: Result<usize, Refused>,
@@ -449,7 +452,8 @@ fn read_lines(job: &[u8], book: &[u8]) -> Pages
     }
 }
 
-// The pages of a job with its phrase book, or the refusal of the one or the other.
+// The pages of a job with its phrase book, or the refusal of the one or the other. Job and book are two slices here and above, and no struct
+// of both: C lends two, and a struct would have to be made for each call.
 pub fn read_job(job: &[u8], book: &[u8]) -> Pages
     ensures { result ≡ reading_of (with_book job.now book.now) }
 {
@@ -475,7 +479,7 @@ pub fn page_text<'a>(job: &'a [u8], book: &'a [u8], page: Page) -> &'a [u8]
 
 // Prints the line of a page whose text is written in these digits, `-` before its newline where it was cut short, over the front
 // of the slice. Answers its length in bytes; nothing, which is number 10, where the slice is shorter. Only the low six digits of the
-// identity and the low digit of the kind are printed.
+// identity and the low digit of the kind are printed. Bytes over a lent slice and no Display: C has it printed so, and there is no heap.
 pub fn print_line(
     out: &mut [u8],
     identity: u32,
