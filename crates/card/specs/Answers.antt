@@ -3,7 +3,7 @@
 use Rattle.std.specs.Prelude.{ℕ, Option, Result, Ok, Err, ⊤}
 use Rattle.codeword.specs.Answer as correction
 use Rattle.codeword.specs.declared.Corrected.{Corrected}
-use Rattle.job.specs.Refusal.{job_number, job_place, job_position, JobAnswer, refused}
+use Rattle.job.specs.Refusal.{job_number, job_place, job_position, JobAnswer}
 use Rattle.transmission.specs.Report as report
 use Rattle.transmission.specs.Report.{Report}
 use Rattle.job_listing.specs.Listed as listed
@@ -61,11 +61,6 @@ reading_for r =
       orphans = reading.orphans_read r;
       changed = reading.changed_read r;
     }
-
--- that of a declined one: the counts are zero
-abbrev pub unread_for : ℕ → ℕ → CardReading
-unread_for place number =
-    record { place = place; bytes = 0; number = number; pages = 0; lost = 0; orphans = 0; changed = record { slots = 0; syncs = 0 } }
 
 -- the answer of a following
 abbrev pub following_for : Result Followed FollowError → CardFollowing

@@ -18,13 +18,15 @@ ghost use Rattle.coverage.specs.Report.{added_to};
 ghost use Rattle.coverage.specs.Rates.{rate_of};
 ghost use Rattle.sender.specs.Start.{started_of};
 ghost use Rattle.sender.specs.Step.{step_of};
-ghost use Rattle.card.specs.Answers.{word_for, report_for, bytes_for, reading_for, unread_for, following_for, receiving_for, adding_for, refusal_for, state_for, step_for};
+ghost use Rattle.card.specs.Answers.{word_for, report_for, bytes_for, reading_for, following_for, receiving_for, adding_for, refusal_for, state_for, step_for};
 
 use codeword::{Corrected, Engine};
-use coverage::{Coverage, Rate};
+use coverage::{AddError, Coverage, Rate};
 use follower::{FollowError, Followed};
+use job::Refused;
 use job_listing::ListError;
 use reader::{Changes, Read, ReadError};
+use receiver::{Refusal, Totals};
 use sender::{Answer, Opening, Sender};
 use transmission::{SendError, Sent};
 
@@ -113,13 +115,14 @@ pub struct CardStep {
     pub number: u32,
 }
 
-// The answer to a word as numbers: the corrected word and how many bits are changed, or the word itself and number 20.
+// The answer to a word as numbers: the corrected word and how many bits are changed, or the word itself and number 20. No From:
+// the word stands beside the answer.
 fn word_numbers(word: u32, a: Option<Corrected>) -> CardWord
     ensures { result ≡ word_for word a }
 {
     let Some(Corrected { codeword, changed }) = a else {
         return CardWord {
-            word: word,
+            word,
             number: 20,
             changed: 0,
         };
@@ -127,7 +130,7 @@ fn word_numbers(word: u32, a: Option<Corrected>) -> CardWord
     CardWord {
         word: codeword.word(),
         number: 0,
-        changed: changed,
+        changed,
     }
 }
 
@@ -135,40 +138,31 @@ fn word_numbers(word: u32, a: Option<Corrected>) -> CardWord
 pub fn card_correct(word: u32) -> CardWord
     ensures { result ≡ word_for word (answer word (nearest word)) }
 {
-    let found = codeword::correct(word);
-    word_numbers(word, found)
+    word_numbers(word, codeword::correct(word))
 }
 
 // Corrects a word with the slow engine.
 pub fn card_correct_slowly(word: u32) -> CardWord
     ensures { result ≡ word_for word (answer word (nearest word)) }
 {
-    let found = codeword::correct_slowly(word);
-    word_numbers(word, found)
+    word_numbers(word, codeword::correct_slowly(word))
 }
 
-// A report as numbers.
-fn report_numbers(r: Result<Sent, SendError>) -> CardReport
-    ensures { result ≡ report_for r }
-{
-    let place = transmission::place(r);
-    let position = transmission::position(r);
-    let number = transmission::number(r);
-    match r {
-        Ok(sent) => CardReport {
-            place: place,
-            position: position,
-            number: number,
-            batches: sent.batches,
-            words: sent.words,
-        },
-        Err(_) => CardReport {
-            place: place,
-            position: position,
-            number: number,
+impl From<Result<Sent, SendError>> for CardReport {
+    ghost from_gives = { λ r c. c ≡ report_for r };
+
+    fn from(r: Result<Sent, SendError>) -> CardReport {
+        let sent = r.unwrap_or(Sent {
             batches: 0,
             words: 0,
-        },
+        });
+        CardReport {
+            place: transmission::place(r),
+            position: transmission::position(r),
+            number: transmission::number(r),
+            batches: sent.batches,
+            words: sent.words,
+        }
     }
 }
 
@@ -183,30 +177,19 @@ pub fn card_send<'a>(
     ensures words_after { words.new ≡ over words.old (words_sent (report_of (with_book job.now book.now) (length words.old) (length slots.old)) (sendings_of (with_book job.now book.now))) }
     ensures slots_after { slots.new ≡ over slots.old (slots_sent (report_of (with_book job.now book.now) (length words.old) (length slots.old)) (sendings_of (with_book job.now book.now))) }
 {
-    let report = transmission::send(job, book, words, slots);
-    report_numbers(report)
+    CardReport::from(transmission::send(job, book, words, slots))
 }
 
-// A listing's answer as numbers.
-fn listed_numbers(a: Result<usize, ListError>) -> CardBytes
-    ensures { result ≡ bytes_for a }
-{
-    let place = job_listing::place(a);
-    let position = job_listing::position(a);
-    let number = job_listing::number(a);
-    match a {
-        Ok(n) => CardBytes {
-            place: place,
-            position: position,
-            bytes: n,
-            number: number,
-        },
-        Err(_) => CardBytes {
-            place: place,
-            position: position,
-            bytes: 0,
-            number: number,
-        },
+impl From<Result<usize, ListError>> for CardBytes {
+    ghost from_gives = { λ a c. c ≡ bytes_for a };
+
+    fn from(a: Result<usize, ListError>) -> CardBytes {
+        CardBytes {
+            place: job_listing::place(a),
+            position: job_listing::position(a),
+            bytes: a.unwrap_or(0),
+            number: job_listing::number(a),
+        }
     }
 }
 
@@ -215,42 +198,32 @@ pub fn card_list<'a>(job: &'a [u8], book: &'a [u8], out: &mut [u8]) -> CardBytes
     ensures value { result ≡ bytes_for (listed_of (with_book job.now book.now) (length out.old)) }
     ensures out_after { out.new ≡ over out.old (bytes_listed (listed_of (with_book job.now book.now) (length out.old)) (listing_text (with_book job.now book.now))) }
 {
-    let listed = job_listing::list_job(job, book, out);
-    listed_numbers(listed)
+    CardBytes::from(job_listing::list_job(job, book, out))
 }
 
-// A reading that is declined, as numbers.
-fn unread(place: usize, number: u32) -> CardReading
-    ensures { result ≡ unread_for place number }
-{
-    CardReading {
-        place: place,
-        bytes: 0,
-        number: number,
-        pages: 0,
-        lost: 0,
-        orphans: 0,
-        changed: Changes { slots: 0, syncs: 0 },
-    }
-}
+// What a declined reading reads.
+const UNREAD: Read = Read {
+    pages: 0,
+    lost: 0,
+    orphans: 0,
+    changed: Changes { slots: 0, syncs: 0 },
+    bytes: 0,
+};
 
-// A reading's answer as numbers.
-fn reading_numbers(r: Result<Read, ReadError>) -> CardReading
-    ensures { result ≡ reading_for r }
-{
-    let place = reader::place(r);
-    let number = reader::number(r);
-    match r {
-        Ok(read) => CardReading {
-            place: place,
+impl From<Result<Read, ReadError>> for CardReading {
+    ghost from_gives = { λ r c. c ≡ reading_for r };
+
+    fn from(r: Result<Read, ReadError>) -> CardReading {
+        let read = r.unwrap_or(UNREAD);
+        CardReading {
+            place: reader::place(r),
             bytes: read.bytes,
-            number: number,
+            number: reader::number(r),
             pages: read.pages,
             lost: read.lost,
             orphans: read.orphans,
             changed: read.changed,
-        },
-        Err(_) => unread(place, number),
+        }
     }
 }
 
@@ -259,8 +232,7 @@ fn read_words(engine: Engine, words: &[u32], out: &mut [u8]) -> CardReading
     ensures value { result ≡ reading_for (read_words words.now (length out.old)) }
     ensures out_after { out.new ≡ over out.old (lines_read (read_words words.now (length out.old)) words.now) }
 {
-    let reading = reader::read_words(engine, words, out);
-    reading_numbers(reading)
+    CardReading::from(reader::read_words(engine, words, out))
 }
 
 // Words read with the fast engine.
@@ -284,8 +256,7 @@ fn read_listing(engine: Engine, listing: &[u8], out: &mut [u8]) -> CardReading
     ensures value { result ≡ reading_for (read_listing listing.now (length out.old)) }
     ensures out_after { out.new ≡ over out.old (lines_read (read_listing listing.now (length out.old)) (words_of listing.now)) }
 {
-    let reading = reader::read_listing(engine, listing, out);
-    reading_numbers(reading)
+    CardReading::from(reader::read_listing(engine, listing, out))
 }
 
 // A listing read with the fast engine.
@@ -304,25 +275,17 @@ pub fn card_read_listing_slowly(listing: &[u8], out: &mut [u8]) -> CardReading
     read_listing(Engine::Slow, listing, out)
 }
 
-// A following's answer as numbers.
-fn following_numbers(r: Result<Followed, FollowError>) -> CardFollowing
-    ensures { result ≡ following_for r }
-{
-    let place = follower::place(r);
-    let number = follower::number(r);
-    match r {
-        Ok(followed) => CardFollowing {
-            place: place,
+impl From<Result<Followed, FollowError>> for CardFollowing {
+    ghost from_gives = { λ r c. c ≡ following_for r };
+
+    fn from(r: Result<Followed, FollowError>) -> CardFollowing {
+        let followed = r.unwrap_or(Followed { bytes: 0, lines: 0 });
+        CardFollowing {
+            place: follower::place(r),
             bytes: followed.bytes,
-            number: number,
+            number: follower::number(r),
             lines: followed.lines,
-        },
-        Err(_) => CardFollowing {
-            place: place,
-            bytes: 0,
-            number: number,
-            lines: 0,
-        },
+        }
     }
 }
 
@@ -331,8 +294,7 @@ pub fn card_follow_words(identity: u32, words: &[u32], out: &mut [u8]) -> CardFo
     ensures value { result ≡ following_for (follow_words identity words.now (length out.old)) }
     ensures out_after { out.new ≡ over out.old (lines_of (follow_words identity words.now (length out.old)) (pages_for identity words.now)) }
 {
-    let following = follower::follow_words(identity, words, out);
-    following_numbers(following)
+    CardFollowing::from(follower::follow_words(identity, words, out))
 }
 
 // The same of a listing.
@@ -340,8 +302,25 @@ pub fn card_follow_listing(identity: u32, listing: &[u8], out: &mut [u8]) -> Car
     ensures value { result ≡ following_for (follow_listing identity listing.now (length out.old)) }
     ensures out_after { out.new ≡ over out.old (lines_of (follow_listing identity listing.now (length out.old)) (pages_for identity (words_of listing.now))) }
 {
-    let following = follower::follow_listing(identity, listing, out);
-    following_numbers(following)
+    CardFollowing::from(follower::follow_listing(identity, listing, out))
+}
+
+impl From<Result<Totals, Refusal>> for CardReceiving {
+    ghost from_gives = { λ r c. c ≡ receiving_for r };
+
+    fn from(r: Result<Totals, Refusal>) -> CardReceiving {
+        let totals = receiver::report(r);
+        CardReceiving {
+            place: 0,
+            bytes: totals.bytes,
+            number: receiver::number(r),
+            batches: totals.batches,
+            pages: totals.pages,
+            lost: totals.lost,
+            orphans: totals.orphans,
+            changed: totals.changed,
+        }
+    }
 }
 
 // Writes the page lines of a recording's bits over the front of lent bytes.
@@ -349,19 +328,18 @@ pub fn card_receive(bits: &[u8], out: &mut [u8]) -> CardReceiving
     ensures value { result ≡ receiving_for (receive_bits bits.now (length out.old)) }
     ensures out_after { out.new ≡ over out.old (lines_received (receive_bits bits.now (length out.old)) bits.now) }
 {
-    let receiving = receiver::receive(bits, out);
-    let number = receiver::number(receiving);
-    let totals = receiver::report(receiving);
-    let changed = totals.changed;
-    CardReceiving {
-        place: 0,
-        bytes: totals.bytes,
-        number: number,
-        batches: totals.batches,
-        pages: totals.pages,
-        lost: totals.lost,
-        orphans: totals.orphans,
-        changed: changed,
+    CardReceiving::from(receiver::receive(bits, out))
+}
+
+impl From<Result<(), AddError>> for CardRefusal {
+    ghost from_gives = { λ a c. c ≡ adding_for a };
+
+    fn from(a: Result<(), AddError>) -> CardRefusal {
+        CardRefusal {
+            place: coverage::place(a),
+            position: 0,
+            number: coverage::number(a),
+        }
     }
 }
 
@@ -371,12 +349,7 @@ pub fn card_coverage_add(listing: &[u8], coverage: &mut Coverage) -> CardRefusal
 {
     let covered = coverage::add(*coverage, listing);
     *coverage = covered.coverage;
-    let answer = covered.answer;
-    CardRefusal {
-        place: coverage::place(answer),
-        position: 0,
-        number: coverage::number(answer),
-    }
+    CardRefusal::from(covered.answer)
 }
 
 // The rate of a frame, 0 to 7, or of sync, 8, in the report that the caller keeps.
@@ -384,6 +357,18 @@ pub fn card_coverage_rate(coverage: &Coverage, row: u32) -> Rate
     ensures { result ≡ rate_of coverage.now row }
 {
     coverage::rate_of(*coverage, row)
+}
+
+impl From<Result<usize, Refused>> for CardRefusal {
+    ghost from_gives = { λ a c. c ≡ refusal_for a };
+
+    fn from(a: Result<usize, Refused>) -> CardRefusal {
+        CardRefusal {
+            place: job::place(a),
+            position: job::position(a),
+            number: job::number(a),
+        }
+    }
 }
 
 // Starts the sending of a job with its phrase book, which is empty where there is none, in the state that the caller keeps. The message
@@ -397,11 +382,7 @@ pub fn card_start<'a>(job: &'a [u8], book: &'a [u8], state: &mut Sender) -> Card
         pages,
         sent,
     } = sender::start_with(job, book, &mut state.words);
-    let refusal = CardRefusal {
-        place: job::place(answer),
-        position: job::position(answer),
-        number: job::number(answer),
-    };
+    let refusal = CardRefusal::from(answer);
     let Ok(_) = answer else {
         return refusal;
     };
@@ -411,26 +392,27 @@ pub fn card_start<'a>(job: &'a [u8], book: &'a [u8], state: &mut Sender) -> Card
     refusal
 }
 
-// A step's answer as numbers.
-fn step_numbers(a: Answer) -> CardStep
-    ensures { result ≡ step_for a }
-{
-    match a {
-        Answer::Word(next) => CardStep {
-            word: next,
-            done: 0,
-            number: 0,
-        },
-        Answer::Done => CardStep {
-            word: 0,
-            done: 1,
-            number: 0,
-        },
-        Answer::Refused => CardStep {
-            word: 0,
-            done: 0,
-            number: 11,
-        },
+impl From<Answer> for CardStep {
+    ghost from_gives = { λ a c. c ≡ step_for a };
+
+    fn from(a: Answer) -> CardStep {
+        match a {
+            Answer::Word(word) => CardStep {
+                word,
+                done: 0,
+                number: 0,
+            },
+            Answer::Done => CardStep {
+                word: 0,
+                done: 1,
+                number: 0,
+            },
+            Answer::Refused => CardStep {
+                word: 0,
+                done: 0,
+                number: 11,
+            },
+        }
     }
 }
 
@@ -438,6 +420,5 @@ fn step_numbers(a: Answer) -> CardStep
 pub fn card_step(state: &mut Sender) -> CardStep
     ensures { (result ≡ step_for (step_of state.old).answer) × (state.new ≡ (step_of state.old).state) }
 {
-    let answer = sender::step(state);
-    step_numbers(answer)
+    CardStep::from(sender::step(state))
 }

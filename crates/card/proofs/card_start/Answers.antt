@@ -5,7 +5,7 @@ use Prim.Native.Nat.{ℕ}
 use Rattle.std.specs.Prelude.{Ok, Err}
 use Rattle.job.specs.Submission.{Submission, with_book}
 use Rattle.job.specs.Job.{job_of}
-use Rattle.job.specs.Refusal.{job_number, job_place, job_position, JobAnswer}
+use Rattle.job.specs.Refusal.{JobAnswer}
 use Rattle.job.specs.declared.Refused.{Refused}
 use Rattle.sender.specs.declared.Opening.{Opening}
 use Rattle.sender.specs.declared.Sender.{Sender}
@@ -17,9 +17,8 @@ use Rattle.card.proofs.card_start.Goals as goal
 
 -- what is answered where the job opens as o and its message words are then `words`, over a state that was old
 module _ (s : Submission) (old : Sender) {o : Opening} {words : List ℕ} (e : o ≡ opening_of (started_of s)) (w : words ≡ words_by (job_of s) (started_of s).state.words old.words) where
-  refusal : {place position number : ℕ} → place ≡ job_place o.answer → position ≡ job_position o.answer → number ≡ job_number o.answer
-      → ◌≡◌ {A = CardRefusal} (record { place = place; position = position; number = number }) (refusal_for (started_of s).answer)
-  refusal p q n = (λ i. record { place = p i; position = q i; number = n i }) ∙ ap (λ (x : Opening). refusal_for x.answer) e
+  refusal : {c : CardRefusal} → c ≡ refusal_for o.answer → c ≡ refusal_for (started_of s).answer
+  refusal f = f ∙ ap (λ (x : Opening). refusal_for x.answer) e
 
   answer : (a : JobAnswer) → o.answer ≡ a → (started_of s).answer ≡ a
   answer a t = sym (ap (λ (x : Opening). x.answer) e) ∙ t
@@ -44,7 +43,7 @@ returns-in_default c =
     let o = c.start_with-answer.ensures in
     let s = with_book a.job.now a.book.now in
     let old = a.state.now in (
-      refusal s old o.value o.words_after c.place.ensures c.position.ensures c.number.ensures,
+      refusal s old o.value o.words_after c.from-refusal.ensures,
       declines s old o.value o.words_after c.in_default.is,
     )
 
@@ -54,6 +53,6 @@ returns c =
     let o = c.start_with-answer.ensures in
     let s = with_book a.job.now a.book.now in
     let old = a.state.now in (
-      refusal s old o.value o.words_after c.place.ensures c.position.ensures c.number.ensures,
+      refusal s old o.value o.words_after c.from-refusal.ensures,
       accepts s old o.value o.words_after _ c.in-Ok.is,
     )
