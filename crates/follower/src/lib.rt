@@ -140,6 +140,7 @@ fn follow_all(
     let mut count = 0;
     let mut bytes = 0;
     let mut s = next_in_frame(frame, 0);
+    // A walk by a variable step, to behind a page's message: no index of a range is counted.
     while s < slots {
         let Some(function) = own_page(identity, words, s) else {
             s = next_in_frame(frame, s + 1);
@@ -219,6 +220,7 @@ fn follow_sound(identity: u32, words: &[u32], out: &mut [u8]) -> Result<Followed
 }
 
 // Follows the identity by the words' verdict. Its own refusals come first.
+#[tactic(auto, unfolding(crate::specs::Answers::follow_judged))]
 fn follow_judged(
     identity: u32,
     v: Result<(), Fault>,
@@ -235,10 +237,8 @@ fn follow_judged(
     if job::is_reserved(identity) {
         return Err(FollowError::IdentityReserved);
     }
-    match v {
-        Ok(_) => follow_sound(identity, words, out),
-        Err(why) => Err(FollowError::Unread(why)),
-    }
+    v.map_err(FollowError::Unread)?;
+    follow_sound(identity, words, out)
 }
 
 // Follows the identity through what `listing::decode` answers: of the words that it returns those of the batches stand first.
