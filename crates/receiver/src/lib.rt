@@ -172,6 +172,7 @@ fn receive_all(bits: &[u8], words: &mut [u32], lines: &mut [u8]) -> Result<Total
 {
     let mut t = NOTHING;
     let mut p = 0;
+    // A walk by a variable step, from stretch to stretch: no index of a range is counted.
     loop {
         let q = hunt(bits, p);
         let b = count_batches(bits, q);
