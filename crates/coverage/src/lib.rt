@@ -77,6 +77,7 @@ pub fn empty() -> Coverage
 }
 
 // The class of a word that says this and has so many changed bits.
+// The class of a lost word is a number too: it is an index into the four counts of a frame, which the report for C has.
 fn class_by(says: Meaning, changed: u32) -> u32
     ensures { result ≡ class_by says changed }
 {
