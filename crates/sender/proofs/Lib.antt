@@ -6,7 +6,6 @@ pub mod Ways
 pub mod Slot
 pub mod Held
 pub mod Iterated
-pub mod Elem
 pub mod WordLaws
 pub mod Laid
 pub mod Begun
