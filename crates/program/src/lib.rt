@@ -1,7 +1,7 @@
 // What the programs do: standard input in, for the sending one with a phrase book and for the following one with an identity, for the
 // coverage one files instead, and the bytes out that are printed (document 01, "The two programs", and requests R-4, R-6, R-10 and R-12).
 // Each program is one call of `send`, `read`, `follow`, `receive` or `cover`, before the last of which each file is added by
-// `coverage::add`. Around it `run` reads the input and has the answer printed; only the coverage program, which reads files, does not go by it.
+// `coverage::add`. Around it `run` reads the input and has the answer printed; the coverage program, which reads files, does without it.
 #![tactic(auto)]
 
 ghost use Rattle.std.specs.Prelude.{◌≡◌, ◌+◌, ◌≤◌, ◌<◌, length, take, IfOk, IfSome};
