@@ -1,5 +1,5 @@
 -- What starting a job answers, and the state from which its steps go (document 01, "Placement").
-use Rattle.job.specs.Refusal.{JobAnswer, refused}
+use Rattle.job.specs.Refusal.{JobAnswer}
 use Rattle.std.specs.Prelude.{ℕ, List, [], ◌∷◌, ◌++◌, map, length, take, replicate, Ok, Err}
 use Rattle.base.specs.Lists.{tab, padded}
 use Rattle.job.specs.Submission.{Submission}

@@ -1,6 +1,6 @@
 -- Every list of steps, of whatever length, as calls (demand 3). `job_stepping` and `no_stepping` in proofs/Stepping.antt prove it.
 use Rattle.job.specs.Refusal.{JobAnswer, refused}
-use Rattle.std.specs.Prelude.{ℕ, ◌≤◌, ◌<◌, ◌≡◌, List, [], ◌∷◌, ◌++◌, map, length, get_or, take, replicate, Ok, Err}
+use Rattle.std.specs.Prelude.{ℕ, ◌≤◌, ◌<◌, ◌≡◌, List, [], ◌∷◌, ◌++◌, map, length, get_or, take, replicate, Ok}
 use Rattle.job.specs.Submission.{Submission}
 use Rattle.job.specs.Job.{job_of}
 use Rattle.job.specs.declared.Refusal.{Refusal}

@@ -367,14 +367,14 @@ pub fn start_with<'a>(job: &'a [u8], book: &'a [u8], words: &mut [u32; 4032]) ->
             *words = [0u32; 4032];
             let pages = lay_out(job, book, &read, n, words);
             Opening {
-                answer: answer,
+                answer,
                 cursor: cursor_at(18),
-                pages: pages,
+                pages,
                 sent: unsent,
             }
         }
         Err(_) => Opening {
-            answer: answer,
+            answer,
             cursor: cursor_at(0),
             pages: no_pages(),
             sent: unsent,
