@@ -4,7 +4,7 @@
 ghost use Rattle.std.specs.Prelude.{◌≡◌, ◌%◌, ◌^◌, length, get_or, take, drop};
 ghost use Rattle.base.specs.Hex.{is_hex, hex_of, digit_value, digit_of, hex_number, hex_word, digits_of, bytes_of};
 ghost use Rattle.base.specs.Leading.{leading};
-ghost use Rattle.base.specs.Lines.{line_end};
+ghost use Rattle.base.specs.Lines.{line_end, not_newline};
 ghost use Rattle.base.specs.Part.{PointsInto};
 
 // The value of an upper-case hexadecimal digit; 16 for any other byte. One arm a digit: a table, where two ranges would be branches
@@ -119,12 +119,22 @@ pub fn pair_byte(pairs: &[u8], k: usize, fill: u8) -> u8
     }
 }
 
+// How many bytes there are before the first newline, or in all.
+fn line_length(s: &[u8]) -> usize
+    ensures { result ≡ leading not_newline s.now }
+{
+    s.iter().take_while(|&&b| b != b'\n').count()
+}
+
 // Where the line that starts at an index ends: the index of its newline, or of the end where there is none.
 // The end and no Option: `line_end` in specs, which CLAIMS names, is total; `phrases::newline` tells the two apart.
 pub fn line_end(s: &[u8], at: usize) -> usize
     ensures { result ≡ line_end s.now at }
 {
-    at + s.iter().skip(at).take_while(|&&b| b != b'\n').count()
+    if s.len() <= at {
+        return at;
+    }
+    at + line_length(&s[at..])
 }
 
 // A part of a slice, no copy: so many bytes from start on, or what is left of them.

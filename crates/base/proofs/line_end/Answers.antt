@@ -1,23 +1,32 @@
 -- `base::line_end` meets its contract. Assumes nothing.
-use mathlib.Core.Path.{ap, ◌∙◌}
-use Prim.Native.Nat.{ℕ, ◌+◌}
-use lib.ListN.{drop}
-use Rattle.std.proofs.Common.{rules, tests}
-use Rattle.std.proofs.lemmas.Iterator.{YieldsList-from_slice}
-use Rattle.std.proofs.lemmas.Iterator.Adapters.{YieldsList-from_skip}
-use Rattle.std.proofs.lemmas.Iterator.Consumers.{count_from_yields_List}
-use Rattle.std.proofs.lemmas.Iterator.Search.{YieldsList-from_take_while}
-use Rattle.std.proofs.lemmas.List.Folds.{length-prefix_len}
+use mathlib.Core.Path.{◌≡◌, ap, ◌∙◌}
+use mathlib.Core.List.{List}
+use Prim.Native.Nat.{ℕ, ◌+◌, ◌-◌, ◌≤◌}
+use native.Mathlib.Omega.{arith}
+use lib.ListN.{length, take, drop, drop_of_length-le, length-drop}
+use Rattle.base.specs.Leading.{leading}
 use Rattle.base.specs.Lines.{not_newline, line_end}
-use Rattle.base.proofs.LeadingLaws.{leading_prefix}
+use Rattle.base.proofs.LeadingLaws.{leading_le}
+use Rattle.base.proofs.ListLaws.{to_end}
 use Rattle.base.proofs.line_end.Goals as goal
+
+-- the part of a slice from an index on is all that stands there
+from : (s : List ℕ) (at : ℕ) {n : ℕ} → n ≡ leading not_newline (take (length s - at) (drop at s)) → n ≡ leading not_newline (drop at s)
+from s at e = e ∙ ap (leading not_newline) (to_end at s)
+
+pub returns-then-s-at : goal.returns-then-s-at
+unfolding line_end
+returns-then-s-at c =
+    let none = drop_of_length-le c.args.s.now {i = c.args.at} (omega arith) in
+    rw none (omega arith)
+
+pub overflow_add-result : goal.overflow_add-result
+overflow_add-result c =
+    let s = c.args.s.now in
+    let at = c.args.at in
+    let inside : at + c.line_length.result ≤ length s = omega (arith, from s at c.line_length.ensures, leading_le not_newline (drop at s), length-drop at s) in
+    grind arith
 
 pub returns : goal.returns
 unfolding line_end
-returns c =
-    let rest = drop c.args.at c.args.s.now in
-    ap (λ (n : ℕ). c.args.at + n)
-    (count_from_yields_List c.take_while.result _ c.count.ensures.ran
-    (YieldsList-from_take_while _ not_newline (YieldsList-from_skip c.args.at (YieldsList-from_slice c.args.s.now cc) cc) c.take_while.ensures.closure c.take_while.ensures.done (λ x b q k. search (rules, tests)))
-    ∙ length-prefix_len not_newline rest
-    ∙ leading_prefix not_newline rest)
+returns c = ap (λ (n : ℕ). c.args.at + n) (from c.args.s.now c.args.at c.line_length.ensures)
