@@ -15,7 +15,7 @@ ghost use Rattle.text.specs.Window.{More};
 ghost use Rattle.text.specs.declared.Coding.TheVariants.{Numeric, Alphanumeric};
 
 // The two ways to write a text in bits.
-#[derive(Clone, Copy)]
+#[derive(Clone, Copy, Debug, PartialEq, Eq)]
 pub enum Coding {
     Numeric,
     Alphanumeric,
@@ -66,11 +66,7 @@ fn is_char(c: Coding, b: u8) -> bool
 {
     match c {
         Coding::Numeric => is_numeric(b),
-        Coding::Alphanumeric => match b {
-            3 | 4 => false,
-            1..=127 => true,
-            _ => false,
-        },
+        Coding::Alphanumeric => matches!(b, 1 | 2 | 5..=127),
     }
 }
 
@@ -305,10 +301,7 @@ fn ends_text(bits: u32) -> bool
     requires { bits < 128 }
     ensures { result ≡ ends (turned_of 7 bits) }
 {
-    match bits {
-        0 | 16 | 96 => true,
-        _ => false,
-    }
+    matches!(bits, 0 | 16 | 96)
 }
 
 // Writes the alphanumeric text of groups as pairs of digits, and answers how many digits they are. A loop of its own, for one pass: it
