@@ -6,7 +6,7 @@ ghost use Rattle.std.specs.Prelude.{◌≡◌, ◌*◌, ◌%◌, ◌≤◌, ◌<
 ghost use Rattle.base.specs.Hex.{hex_of, digit_of, bytes_of};
 ghost use Rattle.base.specs.Lists.{over, tab};
 ghost use Rattle.text.specs.Numeric.{numeric_of, numeric_byte};
-ghost use Rattle.text.specs.Coding.{is_numeric, char_ok, char_run, ends_in_space, width_of, fill_of, value_of, turned_of, group_of, groups_of};
+ghost use Rattle.text.specs.Coding.{is_numeric, char_ok, pair_ok, char_run, ends_in_space, width_of, fill_of, value_of, turned_of, group_of, groups_of};
 ghost use Rattle.text.specs.Fives.{five_at};
 ghost use Rattle.text.specs.Packing.{Few, Refilled};
 ghost use Rattle.text.specs.Heard.{char_heard, ends, heard_text};
@@ -70,22 +70,26 @@ fn is_char(c: Coding, b: u8) -> bool
     }
 }
 
-// How many characters of the coding a text begins with, each written as a pair of digits. Both digits of a pair have one test: two
-// would compile to jumps by the digits, which no processor foresees.
+// Whether two bytes are digits that write a character of the coding. Both digits have one test: two would compile to jumps by the
+// digits, which no processor foresees.
+fn is_pair(c: Coding, high: u8, low: u8) -> bool
+    ensures { result ≡ pair_ok c high low }
+{
+    let high = base::digit_value(high);
+    let low = base::digit_value(low);
+    if 16 <= high | low {
+        return false;
+    }
+    is_char(c, high * 16 + low)
+}
+
+// How many characters of the coding a text begins with, each written as a pair of digits.
 pub fn char_run(c: Coding, text: &[u8]) -> usize
     ensures { result ≡ char_run c text.now }
 {
-    for k in 0..text.len() / 2 {
-        let high = base::digit_value(text[2 * k]);
-        let low = base::digit_value(text[2 * k + 1]);
-        if 16 <= high | low {
-            return k;
-        }
-        if !is_char(c, high * 16 + low) {
-            return k;
-        }
-    }
-    text.len() / 2
+    text.chunks_exact(2)
+        .take_while(|pair| is_pair(c, pair[0], pair[1]))
+        .count()
 }
 
 // Whether a numeric text ends in a space.

@@ -1,77 +1,17 @@
-use mathlib.Core.Path.{◌≡◌, sym, ◌∙◌}
-use mathlib.Core.Bool.{true, false}
-use mathlib.Core.Logic.{⊎_elim}
-use native.Mathlib.Omega.{arith}
-use Prim.Native.Nat.{ℕ, ◌+◌, ◌*◌, ◌≤◌, ◌<◌}
-use lib.Bits.{bit_or, or_lt, or_add_and, and_le_l, and_le_r}
-use Rattle.base.specs.Hex.{is_hex, hex_of, digit_value}
-use Rattle.text.specs.Coding.{char_ok, pair_ok}
-use Rattle.text.specs.declared.Coding.{Coding}
-use Rattle.base.proofs.Bools.{and_both, and_false, either}
-use Rattle.base.proofs.HexLaws.{hex_small, value_some}
-use Rattle.text.proofs.RunLaws.{run_more, run_stop, run_end}
-use Rattle.text.proofs.char_run.Goals.{Else-high-low-ge16}
+-- `text::char_run` meets its contract: it counts the pieces of two bytes that are pairs. Assumes nothing.
+use Rattle.std.proofs.Common.{rules, tests, ◌∙◌, length, ◌/◌}
+use Rattle.std.specs.Simd.{first_chunks}
+use Rattle.std.proofs.lemmas.Iterator.Consumers.{count_from_yields_List}
+use Rattle.std.proofs.lemmas.Iterator.Search.{YieldsList-from_take_while}
+use Rattle.std.proofs.lemmas.List.Folds.{length-prefix_len}
+use Rattle.text.proofs.RunLaws.{is_one, run_pairs, pairs_given}
 use Rattle.text.proofs.char_run.Goals as goal
 
--- a pair of digits, by one test of their values
-both : (v w : ℕ) → bit_or v w < 16 → (v < 16) × (w < 16)
-both v w h = (omega (arith, or_add_and v w, and_le_r v w), omega (arith, or_add_and v w, and_le_l v w))
-
-digit : (b : ℕ) {v : ℕ} → v ≡ digit_value b → v < 16 → (is_hex b ≡ true) × (v ≡ hex_of b)
-digit b e h = let p = value_some b (λ z. omega arith) in (p.0, e ∙ p.1)
-
-small : (b : ℕ) {v : ℕ} → v ≡ digit_value b → is_hex b ≡ true → v < 16
-unfolding digit_value
-small b e h = let z : digit_value b ≡ hex_of b = rw h in omega (arith, hex_small b)
-
--- whether two bytes write a character, as the code finds it
-module _ (c : Coding) (x y : ℕ) {v w : ℕ} (ev : v ≡ digit_value x) (ew : w ≡ digit_value y) where
-  no_pair : 16 ≤ bit_or v w → pair_ok c x y ≡ false
-  no_pair h =
-      ⊎_elim
-      (λ (e : is_hex x ≡ true).
-      ⊎_elim
-      (λ (f : is_hex y ≡ true). absurd (omega (arith, or_lt 4 v w (small x ev e) (small y ew f))))
-      (λ (f : is_hex y ≡ false). rw (f, e))
-      (either (is_hex y)))
-      (λ (e : is_hex x ≡ false). rw e)
-      (either (is_hex x))
-
-  module _ (h : bit_or v w < 16) where
-    pair_char : char_ok c (v * 16 + w) ≡ char_ok c (hex_of x * 16 + hex_of y)
-    pair_char = rw ((digit x ev (both v w h).0).1, (digit y ew (both v w h).1).1)
-
-    no_char : char_ok c (v * 16 + w) ≡ false → pair_ok c x y ≡ false
-    no_char e = rw (sym pair_char ∙ e, and_false (is_hex y), and_false (is_hex x))
-
-    one_char : char_ok c (v * 16 + w) ≡ true → pair_ok c x y ≡ true
-    one_char e = and_both (digit x ev (both v w h).0).0 (and_both (digit y ew (both v w h).1).0 (sym pair_char ∙ e))
-
-pub returns-then-high-low-ge16 : goal.returns-then-high-low-ge16
-returns-then-high-low-ge16 c =
-    let a = c.args in
-    omega (arith, run_stop a.c a.text.now c.loop-k.k (omega arith) (no_pair a.c _ _ c.digit_value-high.ensures c.digit_value-low.ensures c.if-high-low-ge16.true))
-
-below : (c : Else-high-low-ge16) → (c.digit_value-high.result < 16) × (c.digit_value-low.result < 16)
-below c = both c.digit_value-high.result c.digit_value-low.result c.if-high-low-ge16.false
-
-pub overflow_mul-high : goal.overflow_mul-high
-overflow_mul-high c = omega (arith, (below (goal.at.overflow_mul-high c).Else-high-low-ge16).0)
-
-pub overflow_add-high : goal.overflow_add-high
-overflow_add-high c = omega (arith, (below (goal.at.overflow_add-high c).Else-high-low-ge16).0, (below (goal.at.overflow_add-high c).Else-high-low-ge16).1)
-
-pub returns-then-not-is_char : goal.returns-then-not-is_char
-returns-then-not-is_char c =
-    let a = c.args in
-    let none = no_char a.c _ _ c.digit_value-high.ensures c.digit_value-low.ensures c.if-high-low-ge16.false (sym c.is_char.ensures ∙ c.if-not-is_char.true) in
-    omega (arith, run_stop a.c a.text.now c.loop-k.k (omega arith) none)
-
-pub loop-k-preserved : goal.loop-k-preserved
-loop-k-preserved c =
-    let a = c.args in
-    let one = one_char a.c _ _ c.digit_value-high.ensures c.digit_value-low.ensures c.if-high-low-ge16.false (sym c.is_char.ensures ∙ c.if-not-is_char.false) in
-    omega (arith, run_more a.c a.text.now c.loop-k.k (omega arith) one)
-
 pub returns : goal.returns
-returns c = let a = c.args in omega (arith, run_end a.c a.text.now c.loop-k.k (omega arith))
+returns c =
+    let s = c.args.text.now in
+    let one = is_one c.args.c in
+    count_from_yields_List c.take_while.result _ c.count.ensures.ran
+    (YieldsList-from_take_while _ one (pairs_given s (cc) (cc)) c.take_while.ensures.closure c.take_while.ensures.done (λ x b q k. search (rules, tests)))
+    ∙ length-prefix_len one (first_chunks 2 (length s / 2) s)
+    ∙ run_pairs c.args.c s
