@@ -119,13 +119,13 @@ module _ (w c o : ℕ) (h : w < 2 ^ 32) (p : c ≡ checks (w / 2)) (q : o ≡ we
         n (p ∙ checks_remainder (w / 2) (omega arith) ∙ ap checks r ∙ checks_none) in
         omega (arith, x.few)
 
-    module _ (m : wrong ≡ 0 → ⊥) where
-      pub third_bit : single wrong < o → None ≡ answer w (nearest w)
-      third_bit l = sym (by_bits ∙ rw (ne_eqb c 0 n, ne_eqb wrong 0 m, lt-ltb (single wrong) o l))
+    module _ (m : wrong ≡ 0 → ⊥) (one : ℕ) (s : one ≡ single wrong) where
+      pub third_bit : one < o → None ≡ answer w (nearest w)
+      third_bit l = sym (by_bits ∙ rw (ne_eqb c 0 n, ne_eqb wrong 0 m, sym s, lt-ltb one o l))
 
-      pub few_bits : o ≤ single wrong → corrected_to (bit_xor (bit_xor w wrong) (bit_xor (single wrong) o)) (2 - o) ≡ answer w (nearest w)
+      pub few_bits : o ≤ one → corrected_to (bit_xor (bit_xor w wrong) (bit_xor one o)) (2 - o) ≡ answer w (nearest w)
       few_bits l =
-          let e = bit_xor wrong (bit_xor (single wrong) o) in
-          let f : flipped c wrong o ≡ Some e = rw (ne_eqb c 0 n, ne_eqb wrong 0 m, le-ltb (single wrong) o l) in
-          ap₂ (λ (x n : ℕ). corrected_to x n) (xor_assoc w wrong (bit_xor (single wrong) o)) (sym (count e f))
+          let e = bit_xor wrong (bit_xor one o) in
+          let f : flipped c wrong o ≡ Some e = rw (ne_eqb c 0 n, ne_eqb wrong 0 m, sym s, le-ltb one o l) in
+          ap₂ (λ (x n : ℕ). corrected_to x n) (xor_assoc w wrong (bit_xor one o)) (sym (count e f))
           ∙ sym (by_bits ∙ ap (answer_by w) f)

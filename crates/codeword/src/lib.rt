@@ -42,8 +42,7 @@ impl Codeword {
     pub fn word(self) -> u32
         ensures { result ≡ self.0 }
     {
-        let Codeword(word) = self;
-        word
+        self.0
     }
 
     // Whether this is the idle codeword.
@@ -81,7 +80,7 @@ pub fn correct(word: u32) -> Option<Corrected>
         return None;
     }
     // One wrong bit makes the parity odd, two make it even. Otherwise bit 32 is wrong too, and beside two others it is a third.
-    let one = (wrong & (wrong - 1) == 0) as u32;
+    let one = u32::from(wrong & (wrong - 1) == 0);
     if one < odd {
         return None;
     }
@@ -98,7 +97,7 @@ pub fn correct(word: u32) -> Option<Corrected>
 pub fn sync_distance(word: u32) -> u32
     ensures { result ≡ distance word sync }
 {
-    u32::count_ones(word ^ Codeword::SYNC.0)
+    (word ^ Codeword::SYNC.0).count_ones()
 }
 
 // The codeword of 21 information bits.
@@ -118,7 +117,7 @@ fn encode(information: u32) -> u32
 fn remainder(polynomial: u32) -> u32
     ensures { result ≡ remainder 31 polynomial }
 {
-    let p = (polynomial % 0x8000_0000) as u64;
+    let p = u64::from(polynomial % 0x8000_0000);
     let t = p ^ (p << 3) ^ (p << 5);
     let q = (t >> 15) ^ (t >> 16) ^ (t >> 17) ^ (t >> 19) ^ (t >> 23) ^ (t >> 31);
     let v = q ^ (q << 3);
@@ -129,7 +128,7 @@ fn remainder(polynomial: u32) -> u32
 fn parity(word: u32) -> u32
     ensures { result ≡ weight word % 2 }
 {
-    u32::count_ones(word) % 2
+    word.count_ones() % 2
 }
 
 // The checks of a word's first 31 bits, the polynomial p. Bit i is the coefficient of x^(i + 21) of p h, with h as in `remainder` and
@@ -138,7 +137,7 @@ fn parity(word: u32) -> u32
 fn checks(word: u32) -> u64
     ensures { result ≡ checks (word / 2) }
 {
-    let p = (word / 2) as u64;
+    let p = u64::from(word / 2);
     let twice = p ^ (p << 31);
     let part = twice ^ (twice >> 2) ^ (twice >> 5);
     (part ^ (part >> 1) ^ (part >> 2) ^ (part >> 4) ^ (part >> 8) ^ (part >> 16)) % 0x200_0000_0000

@@ -81,7 +81,7 @@ fn left_over(word: u32) -> u32
     for k in 0u32..31 {
         rest = rest * 2 + (word >> (31 - k)) % 2;
         if 0b100_0000_0000 <= rest {
-            rest = rest ^ DIVISOR;
+            rest ^= DIVISOR;
         }
     }
     rest

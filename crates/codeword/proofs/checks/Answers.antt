@@ -5,4 +5,4 @@ use Rattle.codeword.proofs.checks.Goals as goal
 
 pub returns : goal.returns
 unfolding checks
-returns c = refl
+returns c = rw c.from-p.ensures refl

@@ -17,4 +17,4 @@ scheme =
 
 pub returns : goal.returns
 unfolding scheme run agree remainder reduce
-returns c = equal (run scheme) (remainder 31) (linear scheme) (remainder_xor 31) 32 tt c.args.polynomial (omega arith)
+returns c = rw c.from-p.ensures (equal (run scheme) (remainder 31) (linear scheme) (remainder_xor 31) 32 tt c.args.polynomial (omega arith))
