@@ -12,7 +12,7 @@ ghost use Rattle.listing.specs.Scan.{line_from, one_of, two_of, count_if, words_
 ghost use Rattle.listing.specs.declared.Fault.TheVariants.{Malformed, TooMany};
 
 // Why a byte string is no listing. A line is counted from 1.
-#[derive(Clone, Copy, PartialEq, Eq)]
+#[derive(Clone, Copy, Debug, PartialEq, Eq)]
 pub enum Fault {
     // This line is malformed or has no newline, or the text ends before it.
     Malformed(usize),
@@ -21,7 +21,7 @@ pub enum Fault {
 }
 
 // The lines of a well-formed listing.
-#[derive(Clone, Copy, PartialEq, Eq)]
+#[derive(Clone, Copy, Debug, PartialEq, Eq)]
 pub struct Shape {
     // So many preamble lines.
     pub preamble: usize,
@@ -41,10 +41,7 @@ pub struct Decoded {
 pub fn batch_count(l: Result<Shape, Fault>) -> usize
     ensures { result ≡ batches_of l }
 {
-    match l {
-        Ok(shape) => shape.batches,
-        Err(_) => 0,
-    }
+    l.map_or(0, |shape| shape.batches)
 }
 
 // The number of a byte string in the table; 0 where it is a listing: the C interface answers so.
