@@ -1,5 +1,5 @@
 -- How the code keeps what a slot's word says: in one number, its symbol. No public promise needs this.
-use Rattle.std.specs.Prelude.{◌≡◌, Bool, false, cond, List, map, ℕ, zero, suc, ◌+◌, ◌-◌, ◌*◌, ◌/◌, ◌%◌, ◌^◌, ◌≤◌, ◌<◌, eqb, ltb, length, get_or, take, drop}
+use Rattle.std.specs.Prelude.{◌≡◌, Bool, true, false, cond, List, map, ℕ, zero, suc, ◌+◌, ◌-◌, ◌*◌, ◌/◌, ◌%◌, ◌^◌, ◌≤◌, ◌<◌, eqb, ltb, length, get_or, take, drop}
 use Rattle.codeword.specs.Code.{idle}
 use Rattle.codeword.specs.Nearest.{nearest}
 use Rattle.placement.specs.Placement.{frame_of}
@@ -15,6 +15,13 @@ said x =
     cond (ltb x (2 ^ 20))
     (cond (eqb x (idle / 2048)) Idle (Address (x / 4 * 8) (x % 4)))
     (cond (ltb x (2 ^ 21)) (Message (x % 2 ^ 20)) Lost)
+
+-- whether a word says bits of a message
+unfoldable pub is_message : Meaning → Bool
+is_message Lost = false
+is_message Idle = false
+is_message (Address i f) = false
+is_message (Message b) = true
 
 -- the n symbols say what the first n slot words of these batches say
 pub record Tells (words : List ℕ) (n : ℕ) (symbols : List ℕ) : Type 0 where

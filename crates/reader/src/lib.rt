@@ -13,7 +13,7 @@ ghost use Rattle.reader.specs.Reading.{closed_as, slot_word, sync_word, heard_st
 ghost use Rattle.reader.specs.Lines.{kind_heard, digits_heard, line_heard, heard_page, printing_heard, digits_written, line_written};
 ghost use Rattle.reader.specs.Answers.{first_unsynced, judge_batches, judge_words, fault_of, judge_decoded, printed_into, answered, lines_of, read_stretch, read_words, read_listing, lines_read, number_of, place_of};
 ghost use Rattle.reader.specs.Readable.{Readable, batches_first, Decoding};
-ghost use Rattle.reader.specs.Symbols.{said, Tells, state_by, heard_by, page_in, Printable};
+ghost use Rattle.reader.specs.Symbols.{said, is_message, Tells, state_by, heard_by, page_in, Printable};
 ghost use Rattle.reader.specs.Progress.{Buffers, Room, Messages, Idles, Quiet, with_messages, Kept, KeptAll, closed};
 ghost use Rattle.reader.specs.declared.ReadError.TheVariants.{Fault as Faulty};
 
@@ -21,7 +21,7 @@ use codeword::{Codeword, Corrected, Engine};
 use text::Coding;
 
 // What a received word says.
-#[derive(Clone, Copy)]
+#[derive(Clone, Copy, Debug, PartialEq, Eq)]
 pub enum Meaning {
     // No codeword is near, or one with a reserved upper value that is not idle itself.
     Lost,
@@ -33,7 +33,7 @@ pub enum Meaning {
 }
 
 // Why words or a listing can't be read. The 0 for words is no Option: `judge_words` promises it, as the place of document 01's table.
-#[derive(Clone, Copy)]
+#[derive(Clone, Copy, Debug, PartialEq, Eq)]
 pub enum Fault {
     // Number 21, with the line; 0 for words.
     Malformed(usize),
@@ -45,14 +45,14 @@ pub enum Fault {
 
 // How many bits are changed in the slots' words, of which lost ones count 0, and in the sync words.
 #[repr(C)]
-#[derive(Clone, Copy)]
+#[derive(Clone, Copy, Debug, PartialEq, Eq)]
 pub struct Changes {
     pub slots: u32,
     pub syncs: u32,
 }
 
 // What was read: pages, lost words and orphans, the changed bits, and how many bytes of page lines are written.
-#[derive(Clone, Copy)]
+#[derive(Clone, Copy, Debug, PartialEq, Eq)]
 pub struct Read {
     pub pages: u32,
     pub lost: u32,
@@ -62,7 +62,7 @@ pub struct Read {
 }
 
 // Why nothing is read.
-#[derive(Clone, Copy)]
+#[derive(Clone, Copy, Debug, PartialEq, Eq)]
 pub enum ReadError {
     Fault(Fault),
     // Number 10: the lent slice is shorter than the lines.
@@ -145,7 +145,7 @@ fn read_word(engine: Engine, word: u32) -> ReadWord
     };
     let symbol = symbol(codeword);
     ReadWord {
-        symbol: symbol,
+        symbol,
         changed: unless_lost(symbol, changed),
     }
 }
@@ -219,10 +219,8 @@ fn write_text(c: Coding, groups: &[u32], digits: &mut [u8]) -> usize
     ensures value { result ≡ length (heard_digits c groups.now) }
     ensures digits_after { digits.new ≡ over digits.old (heard_digits c groups.now) }
 {
-    let Some(n) = text::write_heard(c, groups, digits) else {
-        return 0;
-    };
-    n
+    // There is room, so the 0 never comes.
+    text::write_heard(c, groups, digits).unwrap_or(0)
 }
 
 // Writes the digits of a page's text, and answers how many they are.
@@ -300,10 +298,8 @@ fn print_page(
     let identity = address / 4 * 8 + frame;
     let first = a + 1;
     let groups = &symbols[first..s];
-    let Some(bytes) = print_heard(identity, address, groups, cut, digits, out) else {
-        return 0;
-    };
-    bytes
+    // There is room, so the 0 never comes.
+    print_heard(identity, address, groups, cut, digits, out).unwrap_or(0)
 }
 
 // What a symbol says.
@@ -388,15 +384,19 @@ fn hear(p: Progress, symbols: &[u32], s: usize, digits: &mut [u8], lines: &mut [
     }
 }
 
+// Whether a symbol says a message.
+fn is_message(symbol: u32) -> bool
+    ensures { result ≡ is_message (said symbol) }
+{
+    matches!(said(symbol), Meaning::Message(_))
+}
+
 // Where the message words that begin at slot s end.
 fn message_end(symbols: &[u32], s: usize) -> usize
     requires { s ≤ length symbols.now }
     ensures { Messages symbols.now s result }
 {
-    s + symbols[s..]
-        .iter()
-        .take_while(|x| 0x10_0000 <= **x && **x < LOST)
-        .count()
+    s + symbols[s..].iter().take_while(|x| is_message(**x)).count()
 }
 
 // Where the idle words that begin at slot s end.
@@ -590,10 +590,8 @@ impl From<listing::Fault> for Fault {
 pub fn judge_decoded(l: Result<listing::Shape, listing::Fault>, words: &[u32]) -> Result<(), Fault>
     ensures { result ≡ judge_decoded l words.now }
 {
-    match l {
-        Ok(_) => judge_batches(words),
-        Err(why) => Err(Fault::from(why)),
-    }
+    l?;
+    judge_batches(words)
 }
 
 // Reads what `listing::decode` answers: of the words that it returns those of the batches stand first.

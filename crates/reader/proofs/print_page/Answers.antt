@@ -1,9 +1,10 @@
 -- `reader::print_page` meets its contract. Assumes nothing.
-use mathlib.Core.Path.{◌≡◌, sym, ◌∙◌}
+use mathlib.Core.Path.{◌≡◌, ap, ◌∙◌}
+use Prim.Native.Nat.{ℕ}
 use lib.ListN.{length}
-use Rattle.std.specs.Prelude.{Some}
+use Rattle.std.specs.Prelude.{Option, Some}
 use Rattle.base.specs.Lists.{over}
-use Rattle.std.proofs.lemmas.Option.{none-some, same_Some}
+use Rattle.std.specs.Option.{unwrap_or}
 use Rattle.reader.specs.Reading.{closed_as}
 use Rattle.reader.specs.Lines.{line_heard}
 use Rattle.reader.specs.Symbols.{page_in}
@@ -21,13 +22,10 @@ line_there c =
     let e = c.print_heard.ensures in
     page_printed a.symbols.now a.a a.s a.cut c.requires.behind c.requires.inside a.digits.now a.out.now c.requires.written c.requires.printed e.value e.out_after
 
-pub returns-in_default : goal.returns-in_default
-returns-in_default c = absurd (none-some _ (sym c.in_default.is ∙ (line_there (goal.at.returns-in_default c).After-print_heard).0))
-
 pub returns : goal.returns
 returns c =
     let there = line_there (goal.at.returns c).After-print_heard in
     record {
-      value = same_Some _ _ (sym c.in-Some.is ∙ there.0);
+      value = c.unwrap_or.ensures ∙ ap (λ (n : Option ℕ). unwrap_or n 0) there.0;
       out_after = there.1;
     }

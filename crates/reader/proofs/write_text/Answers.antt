@@ -1,5 +1,5 @@
 -- `reader::write_text` meets its contract: with room for ten digits a group nothing is declined. Assumes nothing.
-use mathlib.Core.Path.{◌≡◌, sym, ap, ◌∙◌}
+use mathlib.Core.Path.{◌≡◌, ap, ◌∙◌}
 use mathlib.Core.List.{List}
 use Prim.Native.Nat.{ℕ, ◌*◌, ◌≤◌}
 use native.Mathlib.Omega.{arith}
@@ -9,7 +9,8 @@ use borrow.Author.Tests.{le-ltb}
 use Rattle.base.specs.Lists.{over}
 use Rattle.text.specs.Answer.{heard_digits, heard_into, count_of}
 use Rattle.text.specs.declared.Coding.{Coding}
-use Rattle.std.specs.Prelude.{Option, Some, None}
+use Rattle.std.specs.Option.{unwrap_or}
+use Rattle.std.specs.Prelude.{Option, Some}
 use Rattle.reader.proofs.write_text.Goals.{After-write_heard}
 use Rattle.reader.proofs.write_text.Goals as goal
 
@@ -22,25 +23,16 @@ all_written c gs old h w =
     let r = w.0 ∙ room in
     (r, w.1 ∙ ap (over old) (ap (λ (a : Option ℕ). take (count_of a) ds) r ∙ take_all (length ds) ds (omega arith)))
 
-no_room : {n : ℕ} → None ≡ Some n → ⊥
-no_room e = let z : ◌≡◌ {A = ℕ} 0 1 = cc in omega arith
-
-count : {m n : ℕ} → Some m ≡ Some n → m ≡ n
-count e = cc
-
 there : (c : After-write_heard) →
     let a = c.args in
     (c.write_heard.result ≡ Some (length (heard_digits a.c a.groups.now))) × (c.write_heard.new.digits ≡ over a.digits.now (heard_digits a.c a.groups.now))
 there c =
     all_written c.args.c c.args.groups.now c.args.digits.now c.requires (c.write_heard.ensures.value, c.write_heard.ensures.digits_after)
 
-pub returns-in_default : goal.returns-in_default
-returns-in_default c = absurd (no_room (sym c.in_default.is ∙ (there (goal.at.returns-in_default c).After-write_heard).0))
-
 pub returns : goal.returns
 returns c =
     let t = there (goal.at.returns c).After-write_heard in
     record {
-      value = count (sym c.in-Some.is ∙ t.0);
+      value = c.unwrap_or.ensures ∙ ap (λ (n : Option ℕ). unwrap_or n 0) t.0;
       digits_after = t.1;
     }
