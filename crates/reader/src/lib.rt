@@ -157,7 +157,8 @@ pub fn is_sync(word: u32) -> bool
     codeword::sync_distance(word) <= 2
 }
 
-// The first batch, from 0, whose first word does not correct to sync, or the number of batches.
+// The first batch, from 0, whose first word does not correct to sync, or the number of batches. No Option: `first_unsynced` in specs/ is
+// this number, which `Readable.synced` compares.
 fn first_unsynced(words: &[u32]) -> usize
     ensures { result ≡ first_unsynced words.now }
 {
@@ -177,6 +178,7 @@ fn syncs_changed(words: &[u32]) -> u32
     ensures { result ≡ syncs_changed (sync_word words.now) (length words.now / 17) }
 {
     let mut changed = 0;
+    // By number: a loop over `chunks_exact(17)` was tried, and its invariant, of what the iterator has left, did not close.
     for q in 0..words.len() / 17 {
         changed += codeword::sync_distance(words[17 * q]);
     }
