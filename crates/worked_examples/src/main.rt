@@ -3,6 +3,7 @@
 // The small letters w, r and l ask what W, R and L ask, of the slow engine.
 #![tactic(auto)]
 
+ghost use Rattle.std.specs.Prelude.{◌≤◌, ◌<◌, length, IfSome};
 ghost use Rattle.io.specs.Counts.{IsPrefixLen};
 
 use codeword::{Codeword, Corrected, Engine};
@@ -21,18 +22,12 @@ fn print_number(rt: &impl Print, n: u64) {
     print(rt, &digits[..length]);
 }
 
-// A word in eight upper-case digits.
-fn print_word(rt: &impl Print, word: u32) {
-    let mut digits = [0u8; 8];
-    base::write_digits(&mut digits, word);
-    print(rt, b" ");
-    print(rt, &digits);
-}
-
-// Twenty bits in five upper-case digits.
-fn print_group(rt: &impl Print, bits: u32) {
-    let mut digits = [0u8; 5];
-    base::write_digits(&mut digits, bits);
+// A number in upper-case hexadecimal digits: a word in eight, twenty bits in five.
+fn print_digits<const N: usize>(rt: &impl Print, number: u32)
+    requires { N ≤ 8 }
+{
+    let mut digits = [0u8; N];
+    base::write_digits(&mut digits, number);
     print(rt, b" ");
     print(rt, &digits);
 }
@@ -49,15 +44,13 @@ fn number_in(s: &[u8], at: usize, end: usize) -> u32 {
 
 // `A 000009 0`: the address codeword of an identity and a function.
 fn address(rt: &impl Print, line: &[u8]) {
-    print_word(
-        rt,
-        Codeword::address(number_in(line, 2, 8), number_in(line, 9, 10)).word(),
-    );
+    let codeword = Codeword::address(number_in(line, 2, 8), number_in(line, 9, 10));
+    print_digits::<8>(rt, codeword.word());
 }
 
 // `M 84333`: the message codeword of 20 bits.
 fn message(rt: &impl Print, line: &[u8]) {
-    print_word(rt, Codeword::message(number_in(line, 2, 7)).word());
+    print_digits::<8>(rt, Codeword::message(number_in(line, 2, 7)).word());
 }
 
 fn print_correction(rt: &impl Print, answer: Option<Corrected>) {
@@ -65,9 +58,9 @@ fn print_correction(rt: &impl Print, answer: Option<Corrected>) {
         print(rt, b" refused 20");
         return;
     };
-    print_word(rt, codeword.word());
+    print_digits::<8>(rt, codeword.word());
     print(rt, b" changed ");
-    print_number(rt, changed as u64);
+    print_number(rt, u64::from(changed));
 }
 
 // `W 00000003`: what a received word reads as, and how many bits are changed.
@@ -78,7 +71,7 @@ fn word(rt: &impl Print, engine: Engine, line: &[u8]) {
 // The kind that the digit at an index writes; 0 where there is none.
 fn kind_at(line: &[u8], at: usize) -> u32 {
     if at < line.len() {
-        return base::hex_value(line[at]) as u32;
+        return u32::from(base::hex_value(line[at]));
     }
     0
 }
@@ -94,7 +87,7 @@ fn groups(rt: &impl Print, line: &[u8]) {
     let mut first = [0u32; 8];
     job::write_groups(kind, digits, &mut first);
     for group in first.iter().take(n) {
-        print_group(rt, *group);
+        print_digits::<5>(rt, *group);
     }
 }
 
@@ -128,7 +121,9 @@ fn newline_for_bar(b: u8) -> u8 {
 }
 
 // Writes a question over the front of a longer slice, a newline for each `|`, and answers how many bytes that took.
-fn newlines(question: &[u8], out: &mut [u8]) -> usize {
+fn newlines(question: &[u8], out: &mut [u8]) -> usize
+    ensures { IsPrefixLen result out.new }
+{
     if out.len() <= question.len() {
         return 0;
     }
@@ -146,7 +141,7 @@ fn print_answer(rt: &impl Print, answer: Result<usize, Refused>) {
         }
         Err(_) => {
             print(rt, b" refused ");
-            print_number(rt, job::number(answer) as u64);
+            print_number(rt, u64::from(job::number(answer)));
             print(rt, b" place ");
             print_number(rt, job::place(answer) as u64);
             print(rt, b" position ");
@@ -155,30 +150,27 @@ fn print_answer(rt: &impl Print, answer: Result<usize, Refused>) {
     }
 }
 
-// Where the `/` of a question stands; at its end where there is none.
-fn slash(question: &[u8]) -> usize {
-    question
-        .iter()
-        .position(|b| *b == b'/')
-        .unwrap_or(question.len())
+// Where the `/` of a question stands.
+fn slash(question: &[u8]) -> Option<usize>
+    ensures { IfSome result (λ at. at < length question.now) }
+{
+    question.iter().position(|b| *b == b'/')
 }
 
 // The phrase book of a question, which a `/` ends; an empty one where there is no `/`.
 fn book_of(question: &[u8]) -> &[u8] {
-    let end = slash(question);
-    if end < question.len() {
-        return base::part(question, 0, end);
+    match slash(question) {
+        Some(end) => &question[..end],
+        None => b"",
     }
-    base::part(question, 0, 0)
 }
 
 // The job of a question: what stands behind its phrase book, or all of it.
 fn job_of(question: &[u8]) -> &[u8] {
-    let end = slash(question);
-    if end < question.len() {
-        return base::part(question, end + 1, question.len());
+    match slash(question) {
+        Some(end) => &question[end + 1..],
+        None => question,
     }
-    question
 }
 
 // `J 000009 0|`, or `J 41|4243|/000009 9 01|` with a phrase book: what a job is answered.
@@ -188,12 +180,11 @@ fn job(rt: &impl Print, line: &[u8]) {
     }
     let mut bytes = io::buffer();
     let n = newlines(&line[2..], &mut bytes);
-    answer_front(rt, &bytes, n);
+    print_job(rt, &bytes[..n]);
 }
 
-// What the first n bytes of a slice are answered as a job with its book.
-fn answer_front(rt: &impl Print, bytes: &[u8], n: usize) {
-    let question = base::part(bytes, 0, n);
+// What a question is answered as a job with its book.
+fn print_job(rt: &impl Print, question: &[u8]) {
     let answer = job::read_job(job_of(question), book_of(question)).answer;
     print_answer(rt, answer);
 }
@@ -205,49 +196,38 @@ fn page(rt: &impl Print, line: &[u8]) {
     }
     let mut bytes = io::buffer();
     let n = newlines(&line[2..], &mut bytes);
-    page_front(rt, &bytes, n);
+    print_page(rt, &bytes[..n]);
 }
 
-// The same of the first n bytes of a slice.
-fn page_front(rt: &impl Print, bytes: &[u8], n: usize) {
-    let question = base::part(bytes, 0, n);
+// The same of a question.
+fn print_page(rt: &impl Print, question: &[u8]) {
     let job = job_of(question);
     let book = book_of(question);
     let first = job::read_job(job, book).pages[0];
     print(rt, b" function ");
-    print_number(rt, job::function(first.kind) as u64);
+    print_number(rt, u64::from(job::function(first.kind)));
     print(rt, b" text ");
     print(rt, job::page_text(job, book, first));
 }
 
-fn word_buffer() -> [u32; 5118] {
-    [0; 5118]
-}
-
-// The first n numbers of a slice, in decimal.
-fn print_numbers(rt: &impl Print, numbers: &[u32], n: usize) {
-    for number in numbers.iter().take(n) {
-        print(rt, b" ");
-        print_number(rt, u64::from(*number));
-    }
-}
-
-// What sending the first n bytes of a slice as a job of so many pages, with its book, reports, and the slots that it writes.
-fn send_front(rt: &impl Print, bytes: &[u8], n: usize, pages: usize) {
-    let question = base::part(bytes, 0, n);
-    let mut words = word_buffer();
+// What sending a question as a job with its book reports, and the slots that it writes.
+fn print_sent(rt: &impl Print, question: &[u8]) {
+    let mut words = [0u32; 5118];
     let mut slots = [0u32; 48];
     let report = transmission::send(job_of(question), book_of(question), &mut words, &mut slots);
     if let Ok(sent) = report {
         print(rt, b" batches ");
-        print_number(rt, sent.batches as u64);
+        print_number(rt, u64::from(sent.batches));
         print(rt, b" words ");
-        print_number(rt, sent.words as u64);
+        print_number(rt, u64::from(sent.words));
         print(rt, b" slots");
-        print_numbers(rt, &slots, pages);
+        for slot in slots.iter().take(pages_of(question)) {
+            print(rt, b" ");
+            print_number(rt, u64::from(*slot));
+        }
     } else {
         print(rt, b" refused ");
-        print_number(rt, transmission::number(report) as u64);
+        print_number(rt, u64::from(transmission::number(report)));
     }
 }
 
@@ -258,17 +238,13 @@ fn send(rt: &impl Print, line: &[u8]) {
     }
     let mut bytes = io::buffer();
     let n = newlines(&line[2..], &mut bytes);
-    send_front(rt, &bytes, n, pages_of(&bytes, n));
+    print_sent(rt, &bytes[..n]);
 }
 
-// The number of pages of the job, with its book, in the first n bytes of a slice.
-fn pages_of(bytes: &[u8], n: usize) -> usize {
-    let question = base::part(bytes, 0, n);
+// The number of pages of a question's job with its book; 0 where the job is refused.
+fn pages_of(question: &[u8]) -> usize {
     let answer = job::read_job(job_of(question), book_of(question)).answer;
-    match answer {
-        Ok(pages) => pages,
-        Err(_) => 0,
-    }
+    answer.unwrap_or(0)
 }
 
 // A bar for a newline, and any other byte as it is.
@@ -279,16 +255,16 @@ fn bar_for_newline(b: u8) -> u8 {
     }
 }
 
-// The first n bytes of a slice, a bar for each newline.
-fn print_bars(rt: &impl Print, bytes: &[u8], n: usize) {
-    for b in bytes.iter().take(n) {
+// Lines, a bar for each newline.
+fn print_bars(rt: &impl Print, lines: &[u8]) {
+    for b in lines {
         print(rt, &[bar_for_newline(*b)]);
     }
 }
 
 fn print_refused(rt: &impl Print, answer: Result<reader::Read, ReadError>) {
     print(rt, b" refused ");
-    print_number(rt, reader::number(answer) as u64);
+    print_number(rt, u64::from(reader::number(answer)));
     print(rt, b" place ");
     print_number(rt, reader::place(answer) as u64);
 }
@@ -307,7 +283,7 @@ fn print_reading(rt: &impl Print, answer: Result<reader::Read, ReadError>, lines
             print(rt, b" syncs ");
             print_number(rt, read.changed.syncs as u64);
             print(rt, b" ");
-            print_bars(rt, lines, read.bytes);
+            print_bars(rt, base::part(lines, 0, read.bytes));
         }
         Err(_) => print_refused(rt, answer),
     }
@@ -348,13 +324,6 @@ fn list(rt: &impl Print, engine: Engine, line: &[u8]) {
     }
     let mut bytes = io::buffer();
     let n = newlines(&line[2..], &mut bytes);
-    read_front(rt, engine, &bytes, n);
-}
-
-fn read_front(rt: &impl Print, engine: Engine, bytes: &[u8], n: usize) {
-    if bytes.len() < n {
-        return;
-    }
     let mut out = io::buffer();
     let answer = reader::read_listing(engine, &bytes[..n], &mut out);
     print_reading(rt, answer, &out);
