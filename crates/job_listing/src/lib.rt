@@ -69,24 +69,11 @@ pub fn list_job<'a>(job: &'a [u8], book: &'a [u8], out: &mut [u8]) -> Result<usi
     ensures value { result ≡ listed_of (with_book job.now book.now) (length out.old) }
     ensures out_after { out.new ≡ over out.old (bytes_listed result (listing_text (with_book job.now book.now))) }
 {
-    let mut words = word_buffer();
-    let mut slots = slot_buffer();
+    // Room for every job: 18 and 17 words for each of 300 batches, and 48 slots.
+    let mut words = [0u32; 5118];
+    let mut slots = [0u32; 48];
     let sent = transmission::send(job, book, &mut words, &mut slots)?;
     write_front(&words, sent.words as usize, out)
-}
-
-// Room for the words of every transmission: 18 and 17 for each of 300 batches.
-fn word_buffer() -> [u32; 5118]
-    ensures { length result ≡ 5118 }
-{
-    [0; 5118]
-}
-
-// Room for the slots of every job.
-fn slot_buffer() -> [u32; 48]
-    ensures { length result ≡ 48 }
-{
-    [0; 48]
 }
 
 // The listing of the first n words.

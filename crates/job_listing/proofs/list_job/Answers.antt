@@ -3,7 +3,7 @@ use mathlib.Core.Path.{◌≡◌, sym, ap, ap₂, ◌∙◌}
 use mathlib.Core.List.{List}
 use Prim.Native.Nat.{ℕ}
 use native.Mathlib.Omega.{arith}
-use lib.ListN.{length, take}
+use lib.ListN.{length, take, replicate, length-replicate}
 use Rattle.std.proofs.Common.{rules, Ok, Err}
 use Rattle.base.specs.Lists.{over}
 use Rattle.base.proofs.ListLaws.{over_length}
@@ -21,14 +21,14 @@ use Rattle.job_listing.proofs.list_job.Goals as goal
 asked : (c : After-send) → c.send.result ≡ report_of (with_book c.args.job.now c.args.book.now) 5118 48
 asked c =
     let s = with_book c.args.job.now c.args.book.now in
-    c.send.ensures.value ∙ ap₂ (report_of s) c.word_buffer-words.ensures c.slot_buffer-slots.ensures
+    c.send.ensures.value ∙ ap₂ (report_of s) (length-replicate {A = ℕ} 5118 0) (length-replicate {A = ℕ} 48 0)
 
 -- where it is sent, the transmission stands over the front of the words
 stand : (c : After-send) (b m : ℕ) → sent b m ≡ c.send.result
-    → c.send.new.words ≡ over c.word_buffer-words.result (transmission_of (sendings_of (with_book c.args.job.now c.args.book.now)))
+    → c.send.new.words ≡ over (replicate 5118 0) (transmission_of (sendings_of (with_book c.args.job.now c.args.book.now)))
 stand c b m e =
     let s = with_book c.args.job.now c.args.book.now in
-    let buffer = c.word_buffer-words.result in
+    let buffer = replicate 5118 0 in
     let left : c.send.new.words ≡ over buffer (words_sent c.send.result (sendings_of s)) = c.send.ensures.words_after in
     left ∙ ap (λ (r : Report). over buffer (words_sent r (sendings_of s))) (sym e)
 
@@ -38,8 +38,8 @@ write_front-requires c =
     let sending = c.in_ok-sent.sent in
     let told : Ok sending ≡ c.send.result = search rules in
     let sends = laws.sent s sending.batches sending.words (told ∙ asked (goal.at.write_front-requires c).After-send) in
-    let w = c.word_buffer-words in
-    omega (arith, sends.fits, sends.size, ap length (stand (goal.at.write_front-requires c).After-send sending.batches sending.words told), over_length w.result (transmission_of (sendings_of s)) (omega (arith, sends.fits, sends.size, w.ensures)), w.ensures)
+    let room = length-replicate {A = ℕ} 5118 0 in
+    omega (arith, sends.fits, sends.size, ap length (stand (goal.at.write_front-requires c).After-send sending.batches sending.words told), over_length (replicate 5118 0) (transmission_of (sendings_of s)) (omega (arith, sends.fits, sends.size, room)), room)
 
 pub returns : goal.returns
 returns c =
