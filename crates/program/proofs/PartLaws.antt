@@ -1,18 +1,15 @@
 -- Decimal numbers, and parts of a text written behind each other. Assumes nothing.
 use mathlib.Core.Path.{◌≡◌, refl, sym, ap, ◌∙◌}
-use mathlib.Core.List.{List, [], ◌∷◌, ◌++◌, append_assoc}
-use Prim.Native.Nat.{ℕ, zero, suc, ◌+◌, ◌-◌, ◌/◌, ◌%◌, ◌^◌, ◌≤◌, ◌<◌}
+use mathlib.Core.List.{[], ◌∷◌}
+use Prim.Native.Nat.{ℕ, zero, suc, ◌-◌, ◌/◌, ◌%◌, ◌^◌, ◌≤◌, ◌<◌}
 use native.Mathlib.Omega.{arith}
 use native.Mathlib.Numerals.{add-one}
 use native.Mathlib.Nat.{pow-le-pow_right}
 use mathlib.Core.Logic.{⊎_elim}
-use lib.ListN.{length, take, drop, take-append-drop, length-append, drop_of_length-le}
-use lib.Seq.{take_all, length-take-le}
+use lib.ListN.{length, length-append}
 use lib.Dec.{ltb}
 use borrow.Author.Tests.{lt-ltb, le-ltb}
 use Rattle.io.specs.Digits.{hex_digit_ascii, last_digits, IsDigitCount}
-use Rattle.base.specs.Lists.{over}
-use Rattle.base.proofs.ListLaws.{over_part, over_length, over_all_lem}
 use Rattle.base.proofs.SearchLaws.{le_or_lt, least_is, least_only}
 use Rattle.program.specs.Decimal.{decimal_length, decimal}
 

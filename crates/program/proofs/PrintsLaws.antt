@@ -6,13 +6,12 @@ use Prim.Native.Nat.{ℕ, ◌≤◌}
 use native.Mathlib.Omega.{arith}
 use lib.ListN.{length, drop, length-append}
 use lib.Seq.{length-take-le}
-use borrow.Author.Tests.{eq-eqb, ne_eqb}
+use borrow.Author.Tests.{ne_eqb}
 use Rattle.std.specs.Prelude.{Result, ⊤}
 use Rattle.io.specs.Counts.{IsPrefixLen}
 use Rattle.base.specs.Lists.{over}
 use Rattle.job.specs.Submission.{Submission}
 use Rattle.job.specs.Refusal as refusal
-use Rattle.job.specs.declared.Refusal.{Refusal}
 use Rattle.job.proofs.RefusalLaws.{refused_not}
 use Rattle.std.specs.Prelude.{Ok, Err}
 use Rattle.job_listing.specs.Listed as listed
@@ -48,6 +47,7 @@ use Rattle.receiver.specs.declared.Totals.{Totals}
 use Rattle.receiver.proofs.RoomLaws.{bytes_received}
 use Rattle.coverage.specs.Report as covering
 use Rattle.coverage.specs.declared.AddError.{AddError}
+use Rattle.coverage.specs.declared.AddError.TheVariants.{OverLimit, Full}
 use Rattle.coverage.specs.declared.Coverage.{Coverage}
 use Rattle.program.specs.CoverageText.{coverage_text}
 use Rattle.program.specs.Prints.{is_long, refusal_line, answer_text, send_prints, read_prints, follow_prints, receive_prints, cover_prints}
@@ -186,11 +186,17 @@ module _ (s old : List ℕ) (h : is_long s ≡ false) {out : List ℕ} where
 
 -- ---- the coverage program
 
-module _ (a : Result ⊤ AddError) (c : Coverage) (old : List ℕ) {number n : ℕ} {out : List ℕ} where
-  pub cover_whole : number ≡ covering.number_of a → number ≡ 0 → Printed old (coverage_text c) n out → Printed old (cover_prints a c) n out
+module _ (a : Result ⊤ AddError) (c : Coverage) (old : List ℕ) {n : ℕ} {out : List ℕ} where
+  cover_is : (r : Result ⊤ AddError) → r ≡ a → Printed old (answer_text (covering.number_of r) (covering.place_of r) 0 (coverage_text c)) n out
+      → Printed old (cover_prints a c) n out
   unfolding cover_prints
-  cover_whole e z p = same old (coverage_text c) (cover_prints a c) out n (rw (eq-eqb (covering.number_of a) 0 (sym e ∙ z))) p
+  cover_is r e p = same old (answer_text (covering.number_of r) (covering.place_of r) 0 (coverage_text c)) (cover_prints a c) out n (rw e) p
 
-  pub cover_declined : {place : ℕ} → number ≡ covering.number_of a → place ≡ covering.place_of a → (number ≡ 0 → ⊥) → Printed old (refusal_line number place 0) n out → Printed old (cover_prints a c) n out
-  unfolding cover_prints
-  cover_declined {place} e f z p = same old (refusal_line number place 0) (cover_prints a c) out n (rw (ne_eqb (covering.number_of a) 0 (λ q. z (e ∙ q)), e, f)) p
+  -- the report, or the line of the refusal
+  pub cover_whole : (u : ⊤) → result.Ok u ≡ a → Printed old (coverage_text c) n out → Printed old (cover_prints a c) n out
+  cover_whole u e p = cover_is (result.Ok u) e p
+
+  pub cover_declined : (why : AddError) → result.Err why ≡ a
+      → Printed old (refusal_line (covering.number_of (result.Err why)) (covering.place_of (result.Err why)) 0) n out → Printed old (cover_prints a c) n out
+  cover_declined OverLimit e p = cover_is (result.Err OverLimit) e p
+  cover_declined Full e p = cover_is (result.Err Full) e p

@@ -237,8 +237,8 @@ pub fn cover(answer: Result<(), AddError>, coverage: Coverage, out: &mut [u8; 22
 {
     let number = coverage::number(answer);
     let place = coverage::place(answer);
-    if number != 0 {
-        return write_refusal(number, place, 0, out);
+    match answer {
+        Ok(()) => write_coverage(coverage, out),
+        Err(_) => write_refusal(number, place, 0, out),
     }
-    write_coverage(coverage, out)
 }
