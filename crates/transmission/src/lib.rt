@@ -20,7 +20,7 @@ use job::{Page, Pages, Refused};
 const PREAMBLE: u32 = 0xAAAA_AAAA;
 
 // A job that is sent: the number of batches, and of words: 18 plus 17 a batch.
-#[derive(Clone, Copy, PartialEq, Eq)]
+#[derive(Clone, Copy, Debug, PartialEq, Eq)]
 pub struct Sent {
     pub batches: u32,
     pub words: u32,
@@ -119,24 +119,6 @@ fn write_sending(identity: u32, function: u32, groups: &[u32], slot: u32, words:
     }
 }
 
-// A page's codewords from its slot on; the groups of its text fill a slice of just their number first.
-fn write_packed(
-    identity: u32,
-    kind: u32,
-    text: &[u8],
-    groups: &mut [u32],
-    slot: u32,
-    words: &mut [u32],
-)
-    requires groups_len { length groups.old ≡ length (sending_from identity (kind_sent kind) text.now).groups }
-    requires groups_len_bound { (length groups.old ≤ 84) × (slot < 4800) }
-    requires groups_in_bounds { slot_index (slot + length groups.old) < length words.old }
-    ensures { words.new ≡ with_sending (sending_from identity (kind_sent kind) text.now) slot words.old }
-{
-    job::write_groups(kind, text, groups);
-    write_sending(identity, job::function(kind), groups, slot, words);
-}
-
 // A page's address codeword at its slot, and its message codewords directly behind.
 fn write_page<'a>(
     job: &'a [u8],
@@ -154,11 +136,11 @@ fn write_page<'a>(
     let n = groups as usize;
     let mut packed = [0u32; 84];
     let text = job::page_text(job, book, page);
-    write_packed(
+    job::write_groups(page.kind, text, &mut packed[..n]);
+    write_sending(
         page.identity,
-        page.kind,
-        text,
-        &mut packed[..n],
+        job::function(page.kind),
+        &packed[..n],
         slot,
         words,
     );
@@ -226,7 +208,7 @@ fn send_pages<'a>(
     );
     slots[..n].copy_from_slice(&places[..n]);
     Ok(Sent {
-        batches: batches,
+        batches,
         words: count,
     })
 }
