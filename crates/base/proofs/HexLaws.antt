@@ -2,7 +2,7 @@
 use Prim.Native.Nat.{ℕ, zero, suc, ◌+◌, ◌-◌, ◌*◌, ◌/◌, ◌%◌, ◌^◌, ◌≤◌, ◌<◌}
 use mathlib.Core.Path.{◌≡◌, refl, ap, ap₂, sym, ◌∙◌}
 use mathlib.Core.List.{List, [], ◌∷◌}
-use mathlib.Core.Bool.{Bool, true, false, cond, ◌&&◌, ◌||◌}
+use mathlib.Core.Bool.{Bool, true, false, cond, ◌||◌}
 use mathlib.Core.Logic.{⊎_elim}
 use native.Mathlib.Numerals.{add-one}
 use native.Mathlib.Nat.{div-div-eq-div-mul, div-one, pow-suc, pow-succ', pow-le-pow_right, mul-le-mul_right, mul_assoc}
@@ -15,7 +15,7 @@ use Rattle.base.specs.Hex.{between, is_hex, hex_of, digit_value, digit_of, hex_n
 use Rattle.base.specs.Leading.{leading}
 use Rattle.base.specs.Lists.{Begins, has}
 use Rattle.std.specs.Prelude.{Some, None}
-use Rattle.base.proofs.Bools.{either, and_true, and_both, true_false}
+use Rattle.base.proofs.Bools.{either, and_true, true_false}
 use Rattle.base.proofs.LeadingLaws.{leading_cons}
 
 -- ---- one digit
