@@ -1,5 +1,5 @@
 -- `listing::read_one` meets its contract: the newline stands behind eight digits, and these are the word. Assumes nothing.
-use Rattle.std.proofs.Common.{rules, tests, ◌≤◌, length, sym, ◌∙◌, arith}
+use Rattle.std.proofs.Common.{rules, tests, ◌≤◌, length, sym, arith}
 use lib.ListN.{get_or-eq_default}
 use Rattle.listing.proofs.FirstLine.{one_open, one_is}
 use Rattle.listing.proofs.read_one.Goals as goal
