@@ -62,7 +62,9 @@ pub struct Corrected {
     pub changed: u32,
 }
 
-// A received word corrected, by the fast engine. `None`, number 20, where no codeword is at most two bits away.
+// A received word corrected, by the fast engine. `None`, number 20, where no codeword is at most two bits away. Inlined, as the slow one
+// is: what `correct_by` answers would else be written to memory as two numbers and read back as one, for which a processor waits.
+#[inline(always)]
 pub fn correct(word: u32) -> Option<Corrected>
     ensures { result ≡ answer word (nearest word) }
 {

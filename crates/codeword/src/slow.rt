@@ -15,6 +15,7 @@ const DIVISOR: u32 = 0b111_0110_1001;
 
 // The received word, else the first word one bit away, else two, that obeys the code, and how many bits that changed. `None` where none of
 // them does.
+#[inline(always)]
 pub fn correct_slowly(word: u32) -> Option<Corrected>
     ensures { result ≡ answer word (nearest word) }
 {
