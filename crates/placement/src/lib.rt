@@ -22,8 +22,12 @@ fn unmark(marks: &mut [u32])
 pub fn may_start(mark: u32, frame: u8, words: u32, pause: bool, slot: u32) -> bool
     ensures { result ≡ may_start mark frame words pause slot }
 {
+    // A sent page leaves first, so that a search passes over it at once.
+    if mark != 0 {
+        return false;
+    }
     let here = (slot % 16 / 2) as u8;
-    mark == 0 && frame == here && (!pause || words == 0)
+    frame == here && (!pause || words == 0)
 }
 
 // Where a frame's next search starts: where one ended that started at `from`, or again at `from` after a pause, which passes over pages
