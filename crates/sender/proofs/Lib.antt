@@ -4,6 +4,7 @@ pub mod Alike
 pub mod EveryStep
 pub mod Ways
 pub mod Slot
+pub mod OneWord
 pub mod Held
 pub mod Iterated
 pub mod WordLaws
