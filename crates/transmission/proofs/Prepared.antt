@@ -92,7 +92,7 @@ module _ {s : Submission} {n : ℕ} {groups places : List ℕ} {b : ℕ} (r : Pr
       rw (e, size)
 
   -- the slots copied, with what stands behind them
-  pub slots_over : (old : List ℕ) {new : List ℕ} → new ≡ take n places → new ++ drop n old ≡ over old (slots (placement_of (sendings_of s)))
-  slots_over old e =
+  pub slots_over : (old : List ℕ) {m : ℕ} → m ≡ n → {new : List ℕ} → new ≡ take m places → new ++ drop m old ≡ over old (slots (placement_of (sendings_of s)))
+  slots_over old all e =
       let size : length (slots (placement_of (sendings_of s))) ≡ n = ap length (sym r.front) ∙ length-take-le n places r.long in
-      rw (e, r.front, size)
+      rw (e, all, r.front, size)

@@ -14,7 +14,7 @@ use Rattle.transmission.specs.Sending.{Sending, sendings_of, frames_of, counts_o
 use Rattle.transmission.proofs.Sendings.{words_at, sendings_count, accepted_sendings}
 use Rattle.transmission.proofs.Planned.{front_length, front_page, frame_is, few_digits, count_is}
 use Rattle.transmission.proofs.Prepared.{Prepared, placed_is, prepared, few_batches, plan, short_words, short_slots, enough, words_over, slots_over}
-use Rattle.transmission.proofs.send_pages.Goals.{In-loop-k, After-groups, After-unwrap-batches, then-words-room-via-then-words-room, then-words-room-via-else-words-room+then-slots-n}
+use Rattle.transmission.proofs.send_pages.Goals.{In-loop-k, After-groups, After-unwrap-batches}
 use Rattle.transmission.proofs.send_pages.Goals as goal
 
 -- there are n frames and n counts
@@ -104,13 +104,13 @@ overflow_mul-count c = record { fits = omega (arith, few_batches (ready (goal.at
 pub overflow_add-count : goal.overflow_add-count
 overflow_add-count c = record { fits = omega (arith, few_batches (ready (goal.at.overflow_add-count c).After-unwrap-batches)) }
 
-pub returns-then-words-room-clause-value : goal.returns-then-words-room-clause-value
-returns-then-words-room-clause-value c =
-    let r = ready (goal.at.returns-then-words-room-clause-value c).After-unwrap-batches in
-    elim c.then-words-room.branch [
-      | then-words-room-via-then-words-room w ↦ short_words r (length c.args.words.now) (length c.args.slots.now) (omega arith)
-      | then-words-room-via-else-words-room+then-slots-n w ↦ short_slots r (length c.args.words.now) (length c.args.slots.now) (omega arith) (omega arith)
-    ]
+pub returns-then-short-clause-value : goal.returns-then-short-clause-value
+returns-then-short-clause-value c =
+    short_words (ready (goal.at.returns-then-short-clause-value c).After-unwrap-batches) (length c.args.words.now) (length c.args.slots.now) (omega arith)
+
+pub returns-then-slots-n-clause-value : goal.returns-then-slots-n-clause-value
+returns-then-slots-n-clause-value c =
+    short_slots (ready (goal.at.returns-then-slots-n-clause-value c).After-unwrap-batches) (length c.args.words.now) (length c.args.slots.now) (omega arith) (omega arith)
 
 pub write_pages-requires-clause-planned : goal.write_pages-requires-clause-planned
 write_pages-requires-clause-planned c =
@@ -123,5 +123,5 @@ returns c =
     let slots = c.args.slots.now in record {
       value = enough r (length words) (length slots) (omega arith) (omega arith);
       words_after = words_over r words c.write_pages.ensures;
-      slots_after = slots_over r slots c.copy_from_slice.ensures.after;
+      slots_after = slots_over r slots (omega arith) c.copy_from_slice.ensures.after;
     }
