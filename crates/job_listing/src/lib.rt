@@ -82,5 +82,10 @@ fn write_front(words: &[u32], n: usize, out: &mut [u8]) -> Result<usize, ListErr
     ensures value { result ≡ written_into (length out.old) (text_of (take n words.now)) }
     ensures out_after { out.new ≡ over out.old (bytes_listed result (text_of (take n words.now))) }
 {
-    listing::write(&words[..n], out).ok_or(ListError::NoRoom)
+    // Two arms and no `ok_or`: an edit of what is answered without room is refused for the answer, and not for a call more.
+    let answer = listing::write(&words[..n], out);
+    match answer {
+        Some(bytes) => Ok(bytes),
+        None => Err(ListError::NoRoom),
+    }
 }

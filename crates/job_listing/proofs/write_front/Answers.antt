@@ -12,12 +12,22 @@ use Rattle.job_listing.proofs.write_front.Goals as goal
 pub slice_bounds-write-end : goal.slice_bounds-write-end
 slice_bounds-write-end c = sym (length-take-le c.before.args.n c.before.args.words.now (omega arith))
 
-pub returns : goal.returns
-returns c =
+pub returns-in-Some : goal.returns-in-Some
+returns-in-Some c =
     let a = c.before.args in
     let ws = take a.n a.words.now in
-    let written = c.write.ensures.value in
-    let answer = c.ok_or.ensures.value ∙ ap as_listed written in record {
+    let written = sym c.in-Some.is ∙ c.write-answer.ensures.value in
+    let answer = ap as_listed written in record {
       value = answer ∙ written_is ws (length a.out.now);
-      out_after = c.write.ensures.out_after ∙ ap (over a.out.now) (front_written ws (length a.out.now) ∙ ap (λ (x : Listed). bytes_listed x (text_of ws)) (sym answer));
+      out_after = c.write-answer.ensures.out_after ∙ ap (over a.out.now) (front_written ws (length a.out.now) ∙ ap (λ (x : Listed). bytes_listed x (text_of ws)) (sym answer));
+    }
+
+pub returns-in-None : goal.returns-in-None
+returns-in-None c =
+    let a = c.before.args in
+    let ws = take a.n a.words.now in
+    let written = sym c.in-None.is ∙ c.write-answer.ensures.value in
+    let answer = ap as_listed written in record {
+      value = answer ∙ written_is ws (length a.out.now);
+      out_after = c.write-answer.ensures.out_after ∙ ap (over a.out.now) (front_written ws (length a.out.now) ∙ ap (λ (x : Listed). bytes_listed x (text_of ws)) (sym answer));
     }
