@@ -14,6 +14,13 @@ use Rattle.base.proofs.line_end.Goals as goal
 from : (s : List ℕ) (at : ℕ) {n : ℕ} → n ≡ leading not_newline (take (length s - at) (drop at s)) → n ≡ leading not_newline (drop at s)
 from s at e = e ∙ ap (leading not_newline) (to_end at s)
 
+-- where that part starts at an index that is this one, the line ends there
+moved : (s : List ℕ) {a at n : ℕ} → n ≡ leading not_newline (take (length s - a) (drop a s)) → a ≡ at → a + n ≡ at + leading not_newline (drop at s)
+moved s {a} e same = ap (λ (m : ℕ). a + m) (from s a e) ∙ ap (λ (i : ℕ). i + leading not_newline (drop i s)) same
+
+inside : (s : List ℕ) {at n : ℕ} → n ≡ leading not_newline (take (length s - at) (drop at s)) → at ≤ length s → at + n ≤ length s
+inside s {at} e h = omega (arith, from s at e, leading_le not_newline (drop at s), length-drop at s)
+
 pub returns-then-s-at : goal.returns-then-s-at
 unfolding line_end
 returns-then-s-at c =
@@ -21,12 +28,8 @@ returns-then-s-at c =
     rw none (omega arith)
 
 pub overflow_add-result : goal.overflow_add-result
-overflow_add-result c =
-    let s = c.args.s.now in
-    let at = c.args.at in
-    let inside : at + c.line_length.result ≤ length s = omega (arith, from s at c.line_length.ensures, leading_le not_newline (drop at s), length-drop at s) in
-    grind arith
+overflow_add-result c = grind (arith, inside c.args.s.now c.line_length.ensures (omega arith))
 
 pub returns : goal.returns
 unfolding line_end
-returns c = ap (λ (n : ℕ). c.args.at + n) (from c.args.s.now c.args.at c.line_length.ensures)
+returns c = moved c.args.s.now c.line_length.ensures (omega arith)
